@@ -1,0 +1,97 @@
+// The word book's making and calls.
+ghost use mathlib.Core.Path.{_≡_};
+ghost use Prim.Native.Nat.{ℕ, _<_};
+ghost use lib.ListN.{getD};
+ghost use Rattle.guards.specs.Meaning.{on-in, modes, made};
+ghost use Rattle.guards.specs.Calls.{entry-says};
+ghost use Rattle.guards.proofs.Entries.{Named};
+ghost use Rattle.wordbook.specs.Words.{of-words, switch-words, Switch-words-rule};
+use crate::WordBook;
+use faults::Fault;
+use guards::GuardBook;
+use guards::admit;
+use guards::entry::Entry;
+
+const SWITCH_WORDS: [u64; 6] = [
+    0xAAAA_AAAA_AAAA_AAAA,
+    0xCCCC_CCCC_CCCC_CCCC,
+    0xF0F0_F0F0_F0F0_F0F0,
+    0xFF00_FF00_FF00_FF00,
+    0xFFFF_0000_FFFF_0000,
+    0xFFFF_FFFF_0000_0000,
+];
+
+fn switch_word(s: usize) -> u64
+    requires { ⌜ s < 6 ⌝ }
+    ensures { λ r. ⌜ r ≡ getD switch-words s 0 ⌝ }
+{
+    SWITCH_WORDS[s]
+}
+
+// Bit m of the word of a switch is that switch's bit of m.
+pub fn switch_words_stand() -> u8
+    ensures { λ _. ⌜ Switch-words-rule ⌝ }
+{
+    0
+}
+
+impl WordBook {
+    // A book with free switches and guard 0 alone; without switches where `check_switches` would refuse them.
+    pub fn new(switches: usize) -> Self
+        ensures { λ r. ⌜ of-words r ≡ made 6 switches ⌝ }
+    {
+        let switches = if switches > 6 { 0 } else { switches };
+        WordBook { switches, len: 1, words: [0xFFFF_FFFF_FFFF_FFFF; 64] }
+    }
+
+    // The word of an entry.
+    fn word(&self, entry: Entry) -> u64
+        requires { ⌜ Named (now self .switches) (now self .len) entry ⌝ }
+        ensures { λ r. ⌜ ((m : ℕ) → m < modes (of-words (now (self .entry))) → on-in m r ≡ entry-says (of-words (now (self .entry))) entry m) ⌝ }
+    {
+        match entry {
+            Entry::Switch(s) => switch_word(s),
+            Entry::Not(g) => !self.words[g],
+            Entry::Both(g, h) => self.words[g] & self.words[h],
+            Entry::Either(g, h) => self.words[g] | self.words[h],
+        }
+    }
+}
+
+pub impl GuardBook for WordBook as WordGuardBook {
+    ghost meaning = { of-words };
+
+    const MOST_SWITCHES: usize = 6;
+
+    ghost most = { 6 };
+
+    fn limit() -> usize {
+        Self::MOST_SWITCHES
+    }
+
+    fn switches(&self) -> usize {
+        self.switches
+    }
+
+    fn guards(&self) -> usize {
+        self.len
+    }
+
+    fn enter(&mut self, entry: Entry) -> Result<usize, Fault> {
+        let n = admit(self.switches, self.len, entry)?;
+        let word = self.word(entry);
+        self.words[n] = word;
+        self.len = n + 1;
+        Ok(n)
+    }
+
+    fn ask(&self, guard: usize, mode: usize) -> Result<bool, Fault> {
+        if guard >= self.len {
+            return Err(Fault::NoSuchGuard);
+        }
+        if mode >= 1 << self.switches {
+            return Err(Fault::NoSuchMode);
+        }
+        Ok((self.words[guard] >> mode) & 1 == 1)
+    }
+}
