@@ -20,20 +20,27 @@ entry-says b (Not g) m = not (says b g m)
 entry-says b (Both g h) m = says b g m && says b h m
 entry-says b (Either g h) m = says b g m || says b h m
 
--- goes on where x is below its bound, and declines otherwise
-abbrev pub within : {A : Type 0} → ℕ → ℕ → Fault → Result A Refusal → Result A Refusal
-within x bound f next = cond (ltb x bound) next (Err (refusal f))
+-- what an entry names stands, where there are k switches and n guards
+abbrev pub named : ℕ → ℕ → Entry → Bool
+named k n (Switch s) = ltb s k
+named k n (Not g) = ltb g n
+named k n (Both g h) = ltb g n && ltb h n
+named k n (Either g h) = ltb g n && ltb h n
 
--- the number of the next guard where n stand
-abbrev pub room : ℕ → Result ℕ Refusal
-room n = within n 64 GuardsFull (Ok n)
+-- the refusal of an entry that names what does not stand
+abbrev pub missing : Entry → Fault
+missing (Switch s) = NoSuchSwitch
+missing (Not g) = NoSuchGuard
+missing (Both g h) = NoSuchGuard
+missing (Either g h) = NoSuchGuard
 
--- what an entry answers where there are k switches and n guards
+-- goes on where a test passes, and declines otherwise
+abbrev pub where-so : {A : Type 0} → Bool → Fault → Result A Refusal → Result A Refusal
+where-so test f next = cond test next (Err (refusal f))
+
+-- what an entry answers where there are k switches and n guards: the next number, while fewer than 64 stand
 abbrev pub admitted : ℕ → ℕ → Entry → Result ℕ Refusal
-admitted k n (Switch s) = within s k NoSuchSwitch (room n)
-admitted k n (Not g) = within g n NoSuchGuard (room n)
-admitted k n (Both g h) = within g n NoSuchGuard (within h n NoSuchGuard (room n))
-admitted k n (Either g h) = within g n NoSuchGuard (within h n NoSuchGuard (room n))
+admitted k n e = where-so (named k n e) (missing e) (where-so (ltb n 64) GuardsFull (Ok n))
 
 abbrev pub answer : Meaning → Entry → Result ℕ Refusal
 answer b e = admitted (b .switches) (length (b .guards)) e
@@ -54,4 +61,4 @@ pub record Entered (b : Meaning) (e : Entry) (r : Result ℕ Fault) (x : Meaning
 
 -- what a question answers
 abbrev pub asked : Meaning → ℕ → ℕ → Result Bool Refusal
-asked b g m = within g (length (b .guards)) NoSuchGuard (within m (modes b) NoSuchMode (Ok (says b g m)))
+asked b g m = where-so (ltb g (length (b .guards))) NoSuchGuard (where-so (ltb m (modes b)) NoSuchMode (Ok (says b g m)))

@@ -1,10 +1,10 @@
 // The word book's making and calls.
+ghost use mathlib.Core.Bool.{true};
 ghost use mathlib.Core.Path.{_≡_};
 ghost use Prim.Native.Nat.{ℕ, _<_};
 ghost use lib.ListN.{getD};
 ghost use Rattle.guards.specs.Meaning.{on-in, modes, made};
-ghost use Rattle.guards.specs.Calls.{entry-says};
-ghost use Rattle.guards.proofs.Entries.{Named};
+ghost use Rattle.guards.specs.Calls.{named, entry-says};
 ghost use Rattle.wordbook.specs.Words.{of-words, switch-words, Switch-words-rule};
 use crate::WordBook;
 use faults::Fault;
@@ -46,7 +46,7 @@ impl WordBook {
 
     // The word of an entry.
     fn word(&self, entry: Entry) -> u64
-        requires { ⌜ Named (now self .switches) (now self .len) entry ⌝ }
+        requires { ⌜ named (now self .switches) (now self .len) entry ≡ true ⌝ }
         ensures { λ r. ⌜ ((m : ℕ) → m < modes (of-words (now (self .entry))) → on-in m r ≡ entry-says (of-words (now (self .entry))) entry m) ⌝ }
     {
         match entry {

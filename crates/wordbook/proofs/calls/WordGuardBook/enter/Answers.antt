@@ -1,6 +1,4 @@
-use mathlib.Core.Path.{_≡_, ap, _∙_, sym}
-use borrow.Author.Needs.{needs}
-use native.Mathlib.Omega.{arith}
+use mathlib.Core.Path.{refl}
 use Rattle.std.proofs.shelf.Results.{err-from-errBy}
 use Rattle.guards.proofs.Entries.{accepted, entered, refused}
 use Rattle.wordbook.specs.Words.{of-words}
@@ -10,9 +8,8 @@ use Rattle.wordbook.proofs.calls.WordGuardBook.enter.Needs as need
 pub returns-in-Break-n : need.returns-in-Break-n
 returns-in-Break-n c =
     let b = c .args .self .now in
-    let n = count (b .switches) (b .len) (b .words) (b .few) (b .most) (b .whole) in
     let e = err-from-errBy (c .from-residual .result) (c .from-residual .ensures .1) in
-    rw (e .1, e .2) (refused (of-words b) (b .len) (c .args .entry) _ n (c .in-Break-n .ensures tt))
+    rw (e .1, e .2) (refused (of-words b) (b .switches) (b .len) refl (count b) (c .args .entry) _ (c .in-Break-n .ensures tt))
 
 pub word-word-requires : need.word-word-requires
 word-word-requires c κs =
@@ -22,7 +19,6 @@ word-word-requires c κs =
 pub returns : need.returns
 returns c =
     let b = c .args .self .now in
-    let n = count (b .switches) (b .len) (b .words) (b .few) (b .most) (b .whole) in
     let a = accepted (b .switches) (b .len) (c .args .entry) (c .in-Continue-n .n) (c .in-Continue-n .ensures tt) in
-    entered (of-words b) (b .len) (c .args .entry) (c .in-Continue-n .n) _ n (c .in-Continue-n .ensures tt)
-    (rw (a .number) (pushed (b .switches) (b .len) (b .words) (b .few) (b .most) (b .whole) (c .word-word .result) (c .args .entry) (a .space) (c .word-word .ensures)))
+    entered (of-words b) (b .switches) (b .len) refl (count b) (c .args .entry) (c .in-Continue-n .n) _ (c .in-Continue-n .ensures tt)
+    (rw (a .number) (pushed b (c .word-word .result) (c .args .entry) (a .space) (c .word-word .ensures)))

@@ -2,4 +2,4 @@ use Rattle.wordbook.proofs.Words.{sound}
 use Rattle.wordbook.proofs.calls.WordGuardBook.the-impl.Needs as need
 
 pub sound-law : need.sound-law
-sound-law x = sound (x .switches) (x .len) (x .words) (x .few) (x .most) (x .whole) (x .some) (x .ones)
+sound-law x = sound x
