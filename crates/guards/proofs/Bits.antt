@@ -2,12 +2,12 @@
 use mathlib.Core.Path.{_≡_, refl, sym, ap, _∙_}
 use mathlib.Core.Bool.{Bool, true, false, not, _&&_, _||_}
 use mathlib.Core.List.{List, [], _∷_}
-use Prim.Native.Nat.{ℕ, zero, suc, min, max, _+_, _-_, _*_, _/_, _%_, _^_, _<_}
+use Prim.Native.Nat.{ℕ, zero, suc, min, max, _+_, _-_, _*_, _/_, _%_, _^_, _<_, _≤_}
 use native.Mathlib.Nat.{pow-succ', div-div-eq-div-mul}
 use native.Mathlib.Omega.{arith}
 use lib.Dec.{eqb}
 use lib.Bits.{bitAnd, bitOr, and-step, or-step, and-shr, or-shr}
-use lib.ListN.{getD, replicate}
+use lib.ListN.{length, getD, replicate}
 use Rattle.guards.specs.Meaning.{Hold, free, off, on, on-in, lowest, seen, put, Seen-by-switch}
 
 and-low : (p q : ℕ) → p < 2 → q < 2 → eqb (min p q) 1 ≡ (eqb p 1 && eqb q 1)
@@ -97,3 +97,21 @@ seen-by-switch (h ∷ hs) m (suc s) =
 pub seen-free : (k m : ℕ) → seen (replicate k free) m ≡ m
 seen-free zero m = refl
 seen-free (suc k) m = ap (λ n. n * 2 + m % 2) (seen-free k (m / 2)) ∙ omega arith
+
+-- the seen mode is a mode of the same switches, and of no fewer
+pub seen-lt : (hs : List Hold) (k m : ℕ) → length hs ≤ k → m < 2 ^ k → seen hs m < 2 ^ k
+seen-lt [] k m h l = l
+seen-lt (x ∷ hs) zero m h l = absurd (omega arith)
+seen-lt (x ∷ hs) (suc k) m h l =
+    let e : 2 ^ suc k ≡ 2 * 2 ^ k = pow-succ' 2 k in
+    let b = low-lt x (m % 2) (omega arith) in
+    let r = seen-lt hs k (m / 2) (omega arith) (omega arith) in
+    omega arith
+
+pub seen-ge : (hs : List Hold) (k m : ℕ) → length hs ≤ k → 2 ^ k ≤ m → 2 ^ k ≤ seen hs m
+seen-ge [] k m h l = l
+seen-ge (x ∷ hs) zero m h l = absurd (omega arith)
+seen-ge (x ∷ hs) (suc k) m h l =
+    let e : 2 ^ suc k ≡ 2 * 2 ^ k = pow-succ' 2 k in
+    let r = seen-ge hs k (m / 2) (omega arith) (omega arith) in
+    omega arith
