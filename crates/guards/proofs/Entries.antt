@@ -1,18 +1,21 @@
 -- What every kind of book needs of the calls, by its two counts. Assumes nothing.
 use mathlib.Core.Path.{_≡_, refl, sym, ap, _∙_}
 use mathlib.Core.Bool.{Bool, true, false, _&&_}
-use Prim.Native.Nat.{ℕ, _^_, _<_, _≤_}
+use mathlib.Core.List.{[], _∷_}
+use Prim.Native.Nat.{ℕ, _+_, _^_, _<_, _≤_}
 use native.Mathlib.Omega.{arith}
 use lib.Dec.{ltb}
 use lib.ListN.{length}
 use Rattle.std.specs.declared.result.Result.{Result}
 use Rattle.std.specs.declared.result.Result.the-variants.{Ok, Err}
+use Rattle.std.specs.Vec.{made as taken}
+use Rattle.std.proofs.shelf.Lists.{length-append}
 use Rattle.std.proofs.shelf.Tests.{lt-ltb, le-ltb, ltb-true}
 use Rattle.faults.specs.declared.Fault.{Fault}
 use Rattle.faults.specs.declared.Fault.the-variants.{NoSuchGuard, GuardsFull, NoSuchMode}
 use Rattle.faults.specs.Refusals.{Refusal, refusal, told}
 use Rattle.guards.specs.declared.entry.Entry.{Entry}
-use Rattle.guards.specs.Meaning.{Meaning, says, with-guard}
+use Rattle.guards.specs.Meaning.{Meaning, says, modes, row, with-guard}
 use Rattle.guards.specs.Calls.{named, missing, where-so, admitted, settle, answer, after, entry-says, asked, Entered}
 
 -- an accepted entry: what it names stands, there is room, and it takes the next number
@@ -63,3 +66,10 @@ module _ (b : Meaning) (k n : ℕ) (w : b .switches ≡ k) (c : length (b .guard
 
   pub answered : (g m : ℕ) (y : Bool) → g < n → m < 2 ^ k → y ≡ says b g m → told (Ok y) ≡ asked b g m
   answered g m y h l e = ap (λ v. Ok v) e ∙ sym (rw (c, w, lt-ltb g n h, lt-ltb m (2 ^ k) l) refl)
+
+-- an accepted entry makes the guards one more
+pub one-more : (b : Meaning) (e : Entry) (r : Result ℕ Fault) (x : Meaning) → Entered b e r x → taken r (λ _. length (x .guards) ≡ length (b .guards) + 1)
+one-more b e (Err f) x h = tt
+one-more b e (Ok n) x h =
+    ap (λ y. length (y .guards)) (h .left ∙ ap (λ r. settle r (with-guard b (entry-says b e)) b) (sym (h .given))) ∙
+    length-append (b .guards) (row (modes b) (entry-says b e) ∷ [])

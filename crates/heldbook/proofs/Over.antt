@@ -71,7 +71,7 @@ module _ (s : ℕ) (h : Hold) (b : Meaning) (in-book : s < b .switches) (one-eac
   held-with e =
       ap of-guards
       (ap (λ r. map (held-row s h (modes b)) (b .guards) ++ (r ∷ [])) (held-new-row e) ∙
-        sym (map-append (held-row s h (modes b)) (b .guards) (row (modes b) (entry-says b e) ∷ [])))
+      sym (map-append (held-row s h (modes b)) (b .guards) (row (modes b) (entry-says b e) ∷ [])))
 
   holding-after : (e : Entry) → after (holding s h b) e ≡ holding s h (after b e)
   holding-after e =

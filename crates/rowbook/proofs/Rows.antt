@@ -83,12 +83,12 @@ all-rows b (e ∷ es) whole g l =
     let f = entry-says b e in
     all-rows (with-guard b f) es
     (λ j h.
-      ⊎-elim
-      (λ (q : j ≡ length (b .guards)). ap length (getD-push (b .guards) (row (modes b) f) [] j (sym q)) ∙ row-length (modes b) f)
-      (λ (q : j ≢ length (b .guards)).
-        let lt : j < length (b .guards) = omega (arith, with-length b f) in
-        ap length (getD-append-left (b .guards) (row (modes b) f ∷ []) [] j lt) ∙ whole j lt)
-      (cases-eq j (length (b .guards))))
+    ⊎-elim
+    (λ (q : j ≡ length (b .guards)). ap length (getD-push (b .guards) (row (modes b) f) [] j (sym q)) ∙ row-length (modes b) f)
+    (λ (q : j ≢ length (b .guards)).
+    let lt : j < length (b .guards) = omega (arith, with-length b f) in
+    ap length (getD-append-left (b .guards) (row (modes b) f ∷ []) [] j lt) ∙ whole j lt)
+    (cases-eq j (length (b .guards))))
     g l
 
 fresh-rows : (k g : ℕ) → g < 1 → length (getD (fresh k .guards) g []) ≡ 2 ^ k
@@ -111,45 +111,45 @@ right-says answers b k l n (Either g h) m f r p =
 
 module _ (x : RowBook) where
   pub width : of-rows x .switches ≡ x .switches
-  width = switches-stay (fresh (x .switches)) (take (x .len) (x .entries))
+  width = switches-stay (fresh (x .switches)) (take (x .last) (x .entries))
 
-  pub count : length (of-rows x .guards) ≡ x .len + 1
-  count = guards-count (fresh (x .switches)) (take (x .len) (x .entries)) ∙ omega (arith, length-take-le (x .len) (x .entries) (omega arith))
+  pub count : length (of-rows x .guards) ≡ x .last + 1
+  count = guards-count (fresh (x .switches)) (take (x .last) (x .entries)) ∙ omega (arith, length-take-le (x .last) (x .entries) (omega arith))
 
   -- one entry more
-  pub pushed : (e : Entry) → x .len < 63 → with-all (fresh (x .switches)) (take (x .len + 1) (set (x .entries) (x .len) e)) ≡ with-guard (of-rows x) (entry-says (of-rows x) e)
+  pub pushed : (e : Entry) → x .last < 63 → with-all (fresh (x .switches)) (take (x .last + 1) (set (x .entries) (x .last) e)) ≡ with-guard (of-rows x) (entry-says (of-rows x) e)
   pushed e l =
-      ap (with-all (fresh (x .switches))) (take-more-set (x .entries) (x .len) e (omega arith)) ∙
-      all-push (fresh (x .switches)) (take (x .len) (x .entries)) e
+      ap (with-all (fresh (x .switches))) (take-more-set (x .entries) (x .last) e (omega arith)) ∙
+      all-push (fresh (x .switches)) (take (x .last) (x .entries)) e
 
-  pub stands-more : (e : Entry) → x .len < 63 → named (x .switches) (x .len + 1) e ≡ true → (i : ℕ) → i < x .len + 1 → named (x .switches) (i + 1) (getD (set (x .entries) (x .len) e) i (Switch 0)) ≡ true
+  pub stands-more : (e : Entry) → x .last < 63 → named (x .switches) (x .last + 1) e ≡ true → (i : ℕ) → i < x .last + 1 → named (x .switches) (i + 1) (getD (set (x .entries) (x .last) e) i (Switch 0)) ≡ true
   stands-more e l p i h =
       ⊎-elim
-      (λ (q : i ≡ x .len). rw (q, getD-set-same (x .entries) (x .len) e (Switch 0) (omega arith)) p)
-      (λ (q : i ≢ x .len). rw (getD-set-other (x .entries) (x .len) i e (Switch 0) (omega arith)) (x .stands i (omega arith)))
-      (cases-eq i (x .len))
+      (λ (q : i ≡ x .last). rw (q, getD-set-same (x .entries) (x .last) e (Switch 0) (omega arith)) p)
+      (λ (q : i ≢ x .last). rw (getD-set-other (x .entries) (x .last) i e (Switch 0) (omega arith)) (x .stands i (omega arith)))
+      (cases-eq i (x .last))
 
-  pub within : (i : ℕ) → i < x .len → named 16 64 (getD (x .entries) i (Switch 0)) ≡ true
+  pub within : (i : ℕ) → i < x .last → named 16 64 (getD (x .entries) i (Switch 0)) ≡ true
   within i l = named-more (x .switches) (i + 1) 16 64 (getD (x .entries) i (Switch 0)) (x .few) (omega arith) (x .stands i l)
 
   always : (m : ℕ) → m < 2 ^ x .switches → says (of-rows x) 0 m ≡ true
-  always m l = says-stay (fresh (x .switches)) (take (x .len) (x .entries)) 0 m (omega arith) ∙ row-at (2 ^ x .switches) (λ _. true) m l
+  always m l = says-stay (fresh (x .switches)) (take (x .last) (x .entries)) 0 m (omega arith) ∙ row-at (2 ^ x .switches) (λ _. true) m l
 
   pub right-none : (m : ℕ) → m < 2 ^ x .switches → Right (replicate 64 true) 1 (of-rows x) m
   right-none m l zero h = sym (always m l)
   right-none m l (suc j) h = absurd (omega arith)
 
   -- the answer of one entry more
-  pub right-more : (answers : List Bool) (i m : ℕ) (y : Bool) → length answers ≡ 64 → i < x .len → m < 2 ^ x .switches → Right answers (i + 1) (of-rows x) m → y ≡ says-by answers (getD (x .entries) i (Switch 0)) m → Right (set answers (i + 1) y) (i + 1 + 1) (of-rows x) m
+  pub right-more : (answers : List Bool) (i m : ℕ) (y : Bool) → length answers ≡ 64 → i < x .last → m < 2 ^ x .switches → Right answers (i + 1) (of-rows x) m → y ≡ says-by answers (getD (x .entries) i (Switch 0)) m → Right (set answers (i + 1) y) (i + 1 + 1) (of-rows x) m
   right-more answers i m y long l h r is j k =
       let e = getD (x .entries) i (Switch 0) in
       let b = of-rows x in
-      let t = getD-take (x .len) (x .entries) i (Switch 0) l in
+      let t = getD-take (x .last) (x .entries) i (Switch 0) l in
       let p = x .stands i l in
       let new : y ≡ says b (i + 1) m =
-        is ∙ right-says answers b (x .switches) (x .switches) (i + 1) e m (holds-stay (fresh (x .switches)) (take (x .len) (x .entries))) r p ∙
-        ap (λ z. entry-says b z m) (sym t) ∙
-        sym (follows (fresh (x .switches)) (take (x .len) (x .entries)) (x .switches) i (i + 1) m (omega (arith, length-take-le (x .len) (x .entries) (omega arith))) h (omega arith) (rw t p)) in
+      is ∙ right-says answers b (x .switches) (x .switches) (i + 1) e m (holds-stay (fresh (x .switches)) (take (x .last) (x .entries))) r p ∙
+      ap (λ z. entry-says b z m) (sym t) ∙
+      sym (follows (fresh (x .switches)) (take (x .last) (x .entries)) (x .switches) i (i + 1) m (omega (arith, length-take-le (x .last) (x .entries) (omega arith))) h (omega arith) (rw t p)) in
       ⊎-elim
       (λ (q : j ≡ i + 1). rw (q, getD-set-same answers (i + 1) y false (omega arith)) new)
       (λ (q : j ≢ i + 1). rw (getD-set-other answers (i + 1) j y false (omega arith)) (r j (omega arith)))
@@ -158,9 +158,9 @@ module _ (x : RowBook) where
   pub sound : Sound 16 (of-rows x)
   sound = record {
     few = rw width (x .few);
-    one-each = ap length (holds-stay (fresh (x .switches)) (take (x .len) (x .entries))) ∙ length-replicate (x .switches) free ∙ sym width;
+    one-each = ap length (holds-stay (fresh (x .switches)) (take (x .last) (x .entries))) ∙ length-replicate (x .switches) free ∙ sym width;
     some = omega (arith, count);
     room = omega (arith, count);
-    rows = all-rows (fresh (x .switches)) (take (x .len) (x .entries)) (fresh-rows (x .switches));
+    rows = all-rows (fresh (x .switches)) (take (x .last) (x .entries)) (fresh-rows (x .switches));
     always = λ m l. always m (rw (← width) l);
   }

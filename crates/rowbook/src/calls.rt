@@ -29,13 +29,21 @@ impl RowBook {
     pub fn new(switches: usize) -> Self
         ensures { λ r. ⌜ of-rows r ≡ made 16 switches ⌝ }
     {
-        let switches = if switches > 16 { 0 } else { switches };
-        RowBook { switches, len: 0, entries: [Entry::Switch(0); 63] }
+        let switches = if switches > Self::limit() {
+            0
+        } else {
+            switches
+        };
+        RowBook {
+            switches,
+            last: 0,
+            entries: [Entry::Switch(0); 63],
+        }
     }
 
     // The answer of a standing guard, by one pass over the entries before it and its own.
     fn answer(&self, guard: usize, mode: usize) -> bool
-        requires { ⌜ guard ≤ now self .len ⌝ ∗ ⌜ mode < 2 ^ now self .switches ⌝ }
+        requires { ⌜ guard ≤ now self .last ⌝ ∗ ⌜ mode < 2 ^ now self .switches ⌝ }
         ensures { λ r. ⌜ r ≡ says (of-rows (now (self .entry))) guard mode ⌝ }
     {
         let mut answers = [true; 64];
@@ -62,18 +70,18 @@ pub impl GuardBook for RowBook as RowGuardBook {
     }
 
     fn guards(&self) -> usize {
-        self.len + 1
+        self.last + 1
     }
 
     fn enter(&mut self, entry: Entry) -> Result<usize, Fault> {
-        let n = admit(self.switches, self.len + 1, entry)?;
-        self.entries[self.len] = entry;
-        self.len = n;
+        let n = admit(self.switches, self.last + 1, entry)?;
+        self.entries[self.last] = entry;
+        self.last = n;
         Ok(n)
     }
 
     fn ask(&self, guard: usize, mode: usize) -> Result<bool, Fault> {
-        if guard > self.len {
+        if guard > self.last {
             return Err(Fault::NoSuchGuard);
         }
         if mode >= 1 << self.switches {

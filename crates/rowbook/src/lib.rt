@@ -5,19 +5,19 @@ ghost use mathlib.Core.Path.{_≡_};
 ghost use lib.ListN.{length, getD};
 ghost use Rattle.guards.specs.declared.entry.Entry.the-variants.{Switch};
 ghost use Rattle.guards.specs.Calls.{named};
-use guards::entry::Entry;
 pub use calls::RowGuardBook;
+use guards::entry::Entry;
 
 mod calls;
 
-// for up to 16 switches; guard 0 is not kept, and guard i + 1 is entry i
+// for up to 16 switches; the guards are 0 to `last`, and guard i + 1 is entry i
 #[derive(Drop)]
 pub struct RowBook {
     switches: usize,
-    len: usize,
+    last: usize,
     entries: [Entry; 63],
     ghost few: { switches ≤ 16 },
-    ghost most: { len ≤ 63 },
+    ghost most: { last ≤ 63 },
     ghost whole: { length entries ≡ 63 },
-    ghost stands: { (i : ℕ) → i < len → named switches (i + 1) (getD entries i (Switch 0)) ≡ true },
+    ghost stands: { (i : ℕ) → i < last → named switches (i + 1) (getD entries i (Switch 0)) ≡ true },
 }

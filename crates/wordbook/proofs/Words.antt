@@ -32,49 +32,49 @@ pub fresh-is : (k : ℕ) (ws : List ℕ) → k ≤ 6 → words-mean k 1 ((2 ^ 64
 fresh-is k ws h = ap (λ r. of-guards k (r ∷ [])) (row-same (2 ^ k) (λ m. on-in m (2 ^ 64 - 1)) (λ _. true) (λ m l. all-ones k m h l))
 
 module _ (x : WordBook) where
-  pub count : length (of-words x .guards) ≡ x .len
-  count = length-map (take (x .len) (x .words)) (word-row (modes (of-words x))) ∙ length-take-le (x .len) (x .words) (omega arith)
+  pub count : length (of-words x .guards) ≡ x .last + 1
+  count = length-map (take (x .last + 1) (x .words)) (word-row (modes (of-words x))) ∙ length-take-le (x .last + 1) (x .words) (omega arith)
 
-  row-of : (g : ℕ) → g < x .len → getD (of-words x .guards) g [] ≡ word-row (modes (of-words x)) (getD (x .words) g 0)
+  row-of : (g : ℕ) → g < x .last + 1 → getD (of-words x .guards) g [] ≡ word-row (modes (of-words x)) (getD (x .words) g 0)
   row-of g l =
-      getD-map (word-row (modes (of-words x))) (take (x .len) (x .words)) g 0 [] (rw (length-take-le (x .len) (x .words) (omega arith)) l) ∙
-      ap (word-row (modes (of-words x))) (getD-take (x .len) (x .words) g 0 l)
+      getD-map (word-row (modes (of-words x))) (take (x .last + 1) (x .words)) g 0 [] (rw (length-take-le (x .last + 1) (x .words) (omega arith)) l) ∙
+      ap (word-row (modes (of-words x))) (getD-take (x .last + 1) (x .words) g 0 l)
 
   -- what a standing guard says
-  pub word-says : (g m : ℕ) → g < x .len → m < modes (of-words x) → says (of-words x) g m ≡ on-in m (getD (x .words) g 0)
+  pub word-says : (g m : ℕ) → g < x .last + 1 → m < modes (of-words x) → says (of-words x) g m ≡ on-in m (getD (x .words) g 0)
   word-says g m l b = ap (λ r. getD r m false) (row-of g l) ∙ row-at (modes (of-words x)) (λ i. on-in i (getD (x .words) g 0)) m b
 
   -- the words of the four entries
   pub switch-bit : (s m : ℕ) → s < x .switches → m < modes (of-words x) → on-in m (getD switch-words s 0) ≡ entry-says (of-words x) (Switch s) m
   switch-bit s m l b = switch-rule s (omega arith) m (below-64 (x .switches) m (x .few) b) ∙ ap (on-in s) (sym (seen-free (x .switches) m))
 
-  pub not-bit : (g m : ℕ) → g < x .len → m < modes (of-words x) → getD (x .words) g 0 < 2 ^ 64 → on-in m ((2 ^ 64 - 1) - getD (x .words) g 0) ≡ entry-says (of-words x) (Not g) m
+  pub not-bit : (g m : ℕ) → g < x .last + 1 → m < modes (of-words x) → getD (x .words) g 0 < 2 ^ 64 → on-in m ((2 ^ 64 - 1) - getD (x .words) g 0) ≡ entry-says (of-words x) (Not g) m
   not-bit g m l b f = on-not 64 m (getD (x .words) g 0) (below-64 (x .switches) m (x .few) b) f ∙ ap not (sym (word-says g m l b))
 
-  pub both-bit : (g h m : ℕ) → g < x .len → h < x .len → m < modes (of-words x) → on-in m (bitAnd (getD (x .words) g 0) (getD (x .words) h 0)) ≡ entry-says (of-words x) (Both g h) m
+  pub both-bit : (g h m : ℕ) → g < x .last + 1 → h < x .last + 1 → m < modes (of-words x) → on-in m (bitAnd (getD (x .words) g 0) (getD (x .words) h 0)) ≡ entry-says (of-words x) (Both g h) m
   both-bit g h m l r b =
       on-and m (getD (x .words) g 0) (getD (x .words) h 0) ∙ ap (λ y. y && on-in m (getD (x .words) h 0)) (sym (word-says g m l b)) ∙
       ap (λ y. says (of-words x) g m && y) (sym (word-says h m r b))
 
-  pub either-bit : (g h m : ℕ) → g < x .len → h < x .len → m < modes (of-words x) → on-in m (bitOr (getD (x .words) g 0) (getD (x .words) h 0)) ≡ entry-says (of-words x) (Either g h) m
+  pub either-bit : (g h m : ℕ) → g < x .last + 1 → h < x .last + 1 → m < modes (of-words x) → on-in m (bitOr (getD (x .words) g 0) (getD (x .words) h 0)) ≡ entry-says (of-words x) (Either g h) m
   either-bit g h m l r b =
       on-or m (getD (x .words) g 0) (getD (x .words) h 0) ∙ ap (λ y. y || on-in m (getD (x .words) h 0)) (sym (word-says g m l b)) ∙
       ap (λ y. says (of-words x) g m || y) (sym (word-says h m r b))
 
   -- one word more
-  pub pushed : (w : ℕ) (e : Entry) → x .len < 64 → ((m : ℕ) → m < modes (of-words x) → on-in m w ≡ entry-says (of-words x) e m) → words-mean (x .switches) (x .len + 1) (set (x .words) (x .len) w) ≡ with-guard (of-words x) (entry-says (of-words x) e)
+  pub pushed : (w : ℕ) (e : Entry) → x .last + 1 < 64 → ((m : ℕ) → m < modes (of-words x) → on-in m w ≡ entry-says (of-words x) e m) → words-mean (x .switches) (x .last + 1 + 1) (set (x .words) (x .last + 1) w) ≡ with-guard (of-words x) (entry-says (of-words x) e)
   pushed w e l bits =
       ap (of-guards (x .switches))
-      (ap (map (word-row (modes (of-words x)))) (take-more-set (x .words) (x .len) w (omega arith)) ∙
-        map-append (word-row (modes (of-words x))) (take (x .len) (x .words)) (w ∷ []) ∙
-        ap (λ r. of-words x .guards ++ (r ∷ [])) (row-same (modes (of-words x)) (λ m. on-in m w) (entry-says (of-words x) e) bits))
+      (ap (map (word-row (modes (of-words x)))) (take-more-set (x .words) (x .last + 1) w (omega arith)) ∙
+      map-append (word-row (modes (of-words x))) (take (x .last + 1) (x .words)) (w ∷ []) ∙
+      ap (λ r. of-words x .guards ++ (r ∷ [])) (row-same (modes (of-words x)) (λ m. on-in m w) (entry-says (of-words x) e) bits))
 
   pub sound : Sound 6 (of-words x)
   sound = record {
     few = x .few;
     one-each = length-replicate (x .switches) free;
-    some = rw count (x .some);
-    room = rw count (x .most);
+    some = omega (arith, count);
+    room = omega (arith, count);
     rows = λ g l. ap length (row-of g (rw (← count) l)) ∙ row-length (modes (of-words x)) (λ m. on-in m (getD (x .words) g 0));
     always = λ m l. word-says 0 m (omega arith) l ∙ ap (on-in m) (x .ones) ∙ all-ones (x .switches) m (x .few) l;
   }

@@ -2,7 +2,7 @@
 use mathlib.Core.List.{List, [], _∷_, map}
 use mathlib.Core.Path.{_≡_}
 use mathlib.Core.Bool.{Bool}
-use Prim.Native.Nat.{ℕ, _^_, _<_}
+use Prim.Native.Nat.{ℕ, _+_, _^_, _<_}
 use lib.ListN.{take, replicate, getD}
 use Rattle.guards.specs.Meaning.{Meaning, free, on-in, row}
 use Rattle.wordbook.specs.declared.WordBook.{WordBook}
@@ -16,7 +16,7 @@ abbrev pub words-mean : ℕ → ℕ → List ℕ → Meaning
 words-mean k n ws = record { switches = k; holds = replicate k free; guards = map (word-row (2 ^ k)) (take n ws) }
 
 abbrev pub of-words : WordBook → Meaning
-of-words x = words-mean (x .switches) (x .len) (x .words)
+of-words x = words-mean (x .switches) (x .last + 1) (x .words)
 
 -- the words of the switches 0 to 5
 abbrev pub switch-words : List ℕ

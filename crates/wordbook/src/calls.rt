@@ -1,7 +1,7 @@
 // The word book's making and calls.
 ghost use mathlib.Core.Bool.{true};
 ghost use mathlib.Core.Path.{_≡_};
-ghost use Prim.Native.Nat.{ℕ, _<_};
+ghost use Prim.Native.Nat.{ℕ, _+_, _<_};
 ghost use lib.ListN.{getD};
 ghost use Rattle.guards.specs.Meaning.{on-in, modes, made};
 ghost use Rattle.guards.specs.Calls.{named, entry-says};
@@ -40,13 +40,21 @@ impl WordBook {
     pub fn new(switches: usize) -> Self
         ensures { λ r. ⌜ of-words r ≡ made 6 switches ⌝ }
     {
-        let switches = if switches > 6 { 0 } else { switches };
-        WordBook { switches, len: 1, words: [0xFFFF_FFFF_FFFF_FFFF; 64] }
+        let switches = if switches > Self::limit() {
+            0
+        } else {
+            switches
+        };
+        WordBook {
+            switches,
+            last: 0,
+            words: [0xFFFF_FFFF_FFFF_FFFF; 64],
+        }
     }
 
     // The word of an entry.
     fn word(&self, entry: Entry) -> u64
-        requires { ⌜ named (now self .switches) (now self .len) entry ≡ true ⌝ }
+        requires { ⌜ named (now self .switches) (now self .last + 1) entry ≡ true ⌝ }
         ensures { λ r. ⌜ ((m : ℕ) → m < modes (of-words (now (self .entry))) → on-in m r ≡ entry-says (of-words (now (self .entry))) entry m) ⌝ }
     {
         match entry {
@@ -74,19 +82,19 @@ pub impl GuardBook for WordBook as WordGuardBook {
     }
 
     fn guards(&self) -> usize {
-        self.len
+        self.last + 1
     }
 
     fn enter(&mut self, entry: Entry) -> Result<usize, Fault> {
-        let n = admit(self.switches, self.len, entry)?;
+        let n = admit(self.switches, self.last + 1, entry)?;
         let word = self.word(entry);
         self.words[n] = word;
-        self.len = n + 1;
+        self.last = n;
         Ok(n)
     }
 
     fn ask(&self, guard: usize, mode: usize) -> Result<bool, Fault> {
-        if guard >= self.len {
+        if guard > self.last {
             return Err(Fault::NoSuchGuard);
         }
         if mode >= 1 << self.switches {

@@ -7,15 +7,14 @@ pub use calls::switch_words_stand;
 
 mod calls;
 
-// for up to 6 switches: 64 modes
+// for up to 6 switches; the guards are 0 to `last`
 #[derive(Drop)]
 pub struct WordBook {
     switches: usize,
-    len: usize,
+    last: usize,
     words: [u64; 64],
     ghost few: { switches ≤ 6 },
-    ghost some: { 1 ≤ len },
-    ghost most: { len ≤ 64 },
+    ghost most: { last ≤ 63 },
     ghost whole: { length words ≡ 64 },
     ghost ones: { getD words 0 0 ≡ 0xFFFF_FFFF_FFFF_FFFF },
 }

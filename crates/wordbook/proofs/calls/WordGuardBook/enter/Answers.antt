@@ -1,4 +1,5 @@
 use mathlib.Core.Path.{refl}
+use Prim.Native.Nat.{_+_}
 use Rattle.std.proofs.shelf.Results.{err-from-errBy}
 use Rattle.guards.proofs.Entries.{accepted, entered, refused}
 use Rattle.wordbook.specs.Words.{of-words}
@@ -9,16 +10,16 @@ pub returns-in-Break-n : need.returns-in-Break-n
 returns-in-Break-n c =
     let b = c .args .self .now in
     let e = err-from-errBy (c .from-residual .result) (c .from-residual .ensures .1) in
-    rw (e .1, e .2) (refused (of-words b) (b .switches) (b .len) refl (count b) (c .args .entry) _ (c .in-Break-n .ensures tt))
+    rw (e .1, e .2) (refused (of-words b) (b .switches) (b .last + 1) refl (count b) (c .args .entry) _ (c .in-Break-n .ensures tt))
 
 pub word-word-requires : need.word-word-requires
 word-word-requires c κs =
     let b = c .args .self .now in
-    accepted (b .switches) (b .len) (c .args .entry) (c .in-Continue-n .n) (c .in-Continue-n .ensures tt) .names
+    accepted (b .switches) (b .last + 1) (c .args .entry) (c .in-Continue-n .n) (c .in-Continue-n .ensures tt) .names
 
 pub returns : need.returns
 returns c =
     let b = c .args .self .now in
-    let a = accepted (b .switches) (b .len) (c .args .entry) (c .in-Continue-n .n) (c .in-Continue-n .ensures tt) in
-    entered (of-words b) (b .switches) (b .len) refl (count b) (c .args .entry) (c .in-Continue-n .n) _ (c .in-Continue-n .ensures tt)
+    let a = accepted (b .switches) (b .last + 1) (c .args .entry) (c .in-Continue-n .n) (c .in-Continue-n .ensures tt) in
+    entered (of-words b) (b .switches) (b .last + 1) refl (count b) (c .args .entry) (c .in-Continue-n .n) _ (c .in-Continue-n .ensures tt)
     (rw (a .number) (pushed b (c .word-word .result) (c .args .entry) (a .space) (c .word-word .ensures)))
