@@ -117,10 +117,11 @@ module _ (x : RowBook) where
   count = guards-count (fresh (x .switches)) (take (x .last) (x .entries)) ∙ omega (arith, length-take-le (x .last) (x .entries) (omega arith))
 
   -- one entry more
-  pub pushed : (e : Entry) → x .last < 63 → with-all (fresh (x .switches)) (take (x .last + 1) (set (x .entries) (x .last) e)) ≡ with-guard (of-rows x) (entry-says (of-rows x) e)
-  pushed e l =
-      ap (with-all (fresh (x .switches))) (take-more-set (x .entries) (x .last) e (omega arith)) ∙
-      all-push (fresh (x .switches)) (take (x .last) (x .entries)) e
+  pub pushed : (at last′ : ℕ) (e : Entry) → at ≡ x .last → last′ ≡ x .last + 1 → x .last < 63 → with-all (fresh (x .switches)) (take last′ (set (x .entries) at e)) ≡ with-guard (of-rows x) (entry-says (of-rows x) e)
+  pushed at last′ e p q l =
+      rw (p, q)
+      (ap (with-all (fresh (x .switches))) (take-more-set (x .entries) (x .last) e (omega arith)) ∙
+        all-push (fresh (x .switches)) (take (x .last) (x .entries)) e)
 
   pub stands-more : (e : Entry) → x .last < 63 → named (x .switches) (x .last + 1) e ≡ true → (i : ℕ) → i < x .last + 1 → named (x .switches) (i + 1) (getD (set (x .entries) (x .last) e) i (Switch 0)) ≡ true
   stands-more e l p i h =

@@ -62,12 +62,13 @@ module _ (x : WordBook) where
       ap (λ y. says (of-words x) g m || y) (sym (word-says h m r b))
 
   -- one word more
-  pub pushed : (w : ℕ) (e : Entry) → x .last + 1 < 64 → ((m : ℕ) → m < modes (of-words x) → on-in m w ≡ entry-says (of-words x) e m) → words-mean (x .switches) (x .last + 1 + 1) (set (x .words) (x .last + 1) w) ≡ with-guard (of-words x) (entry-says (of-words x) e)
-  pushed w e l bits =
-      ap (of-guards (x .switches))
-      (ap (map (word-row (modes (of-words x)))) (take-more-set (x .words) (x .last + 1) w (omega arith)) ∙
-      map-append (word-row (modes (of-words x))) (take (x .last + 1) (x .words)) (w ∷ []) ∙
-      ap (λ r. of-words x .guards ++ (r ∷ [])) (row-same (modes (of-words x)) (λ m. on-in m w) (entry-says (of-words x) e) bits))
+  pub pushed : (at last′ w : ℕ) (e : Entry) → at ≡ x .last + 1 → last′ ≡ x .last + 1 → x .last + 1 < 64 → ((m : ℕ) → m < modes (of-words x) → on-in m w ≡ entry-says (of-words x) e m) → words-mean (x .switches) (last′ + 1) (set (x .words) at w) ≡ with-guard (of-words x) (entry-says (of-words x) e)
+  pushed at last′ w e p q l bits =
+      rw (p, q)
+      (ap (of-guards (x .switches))
+        (ap (map (word-row (modes (of-words x)))) (take-more-set (x .words) (x .last + 1) w (omega arith)) ∙
+          map-append (word-row (modes (of-words x))) (take (x .last + 1) (x .words)) (w ∷ []) ∙
+          ap (λ r. of-words x .guards ++ (r ∷ [])) (row-same (modes (of-words x)) (λ m. on-in m w) (entry-says (of-words x) e) bits)))
 
   pub sound : Sound 6 (of-words x)
   sound = record {

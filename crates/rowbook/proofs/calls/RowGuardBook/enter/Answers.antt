@@ -24,4 +24,4 @@ returns c =
     let b = c .args .self .now in
     let a = accepted (b .switches) (b .last + 1) (c .args .entry) (c .in-Continue-n .n) (c .in-Continue-n .ensures tt) in
     entered (of-rows b) (b .switches) (b .last + 1) (width b) (count b) (c .args .entry) (c .in-Continue-n .n) _ (c .in-Continue-n .ensures tt)
-    (rw (a .number) (pushed b (c .args .entry) (omega arith)))
+    (pushed b _ _ (c .args .entry) (omega arith) (omega arith) (omega arith))
