@@ -6,7 +6,7 @@ ghost use lib.ListN.{length};
 ghost use Rattle.faults.specs.declared.Fault.the-variants.{TooLarge};
 ghost use Rattle.faults.specs.Refusals.{told, bare};
 ghost use Rattle.guards.specs.declared.entry.Entry.the-variants.{Switch, Not, Both, Either};
-ghost use Rattle.guards.specs.Meaning.{Meaning, Sound, Seen-by-switch};
+ghost use Rattle.guards.specs.Meaning.{Meaning, Sound, modes, Seen-by-switch};
 ghost use Rattle.guards.specs.Calls.{Entered, admitted, asked};
 use entry::Entry;
 use faults::Fault;
@@ -67,6 +67,13 @@ pub trait GuardBook {
         ensures { λ r. ⌜ Entered (meaning (now (self .entry))) (Either one other) r (meaning (now (self .exit))) ⌝ }
     {
         self.enter(Entry::Either(one, other))
+    }
+
+    // How many modes there are.
+    fn modes(&self) -> usize
+        ensures { λ r. ⌜ r ≡ modes (meaning (now (self .entry))) ⌝ }
+    {
+        1 << self.switches()
     }
 
     // 0, or the number of the refusal where a book of this kind cannot have so many switches.

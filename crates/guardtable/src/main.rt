@@ -59,7 +59,7 @@ fn fill<B: GuardBook>(book: &mut B) -> Result<(), Fault>
 fn ask_all<B: GuardBook>(heap: Global, book: &B, on: usize) -> Result<Vec<bool>, AnyError> {
     let mut answers = Vec::new(heap);
     for guard in 0..book.guards() {
-        for mode in 0..1 << book.switches() {
+        for mode in 0..book.modes() {
             match book.ask(guard, mode | on) {
                 Ok(answer) => answers.push(answer)?,
                 Err(_) => return Err("a standing guard was not answered".into()),

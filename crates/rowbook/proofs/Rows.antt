@@ -121,7 +121,7 @@ module _ (x : RowBook) where
   pushed at last′ e p q l =
       rw (p, q)
       (ap (with-all (fresh (x .switches))) (take-more-set (x .entries) (x .last) e (omega arith)) ∙
-        all-push (fresh (x .switches)) (take (x .last) (x .entries)) e)
+      all-push (fresh (x .switches)) (take (x .last) (x .entries)) e)
 
   pub stands-more : (e : Entry) → x .last < 63 → named (x .switches) (x .last + 1) e ≡ true → (i : ℕ) → i < x .last + 1 → named (x .switches) (i + 1) (getD (set (x .entries) (x .last) e) i (Switch 0)) ≡ true
   stands-more e l p i h =
@@ -136,12 +136,12 @@ module _ (x : RowBook) where
   always : (m : ℕ) → m < 2 ^ x .switches → says (of-rows x) 0 m ≡ true
   always m l = says-stay (fresh (x .switches)) (take (x .last) (x .entries)) 0 m (omega arith) ∙ row-at (2 ^ x .switches) (λ _. true) m l
 
-  pub right-none : (m : ℕ) → m < 2 ^ x .switches → Right (replicate 64 true) 1 (of-rows x) m
-  right-none m l zero h = sym (always m l)
+  pub right-none : (m : ℕ) → m < modes (of-rows x) → Right (replicate 64 true) 1 (of-rows x) m
+  right-none m l zero h = sym (always m (rw (← width) l))
   right-none m l (suc j) h = absurd (omega arith)
 
   -- the answer of one entry more
-  pub right-more : (answers : List Bool) (i m : ℕ) (y : Bool) → length answers ≡ 64 → i < x .last → m < 2 ^ x .switches → Right answers (i + 1) (of-rows x) m → y ≡ says-by answers (getD (x .entries) i (Switch 0)) m → Right (set answers (i + 1) y) (i + 1 + 1) (of-rows x) m
+  pub right-more : (answers : List Bool) (i m : ℕ) (y : Bool) → length answers ≡ 64 → i < x .last → m < modes (of-rows x) → Right answers (i + 1) (of-rows x) m → y ≡ says-by answers (getD (x .entries) i (Switch 0)) m → Right (set answers (i + 1) y) (i + 1 + 1) (of-rows x) m
   right-more answers i m y long l h r is j k =
       let e = getD (x .entries) i (Switch 0) in
       let b = of-rows x in
@@ -150,7 +150,7 @@ module _ (x : RowBook) where
       let new : y ≡ says b (i + 1) m =
       is ∙ right-says answers b (x .switches) (x .switches) (i + 1) e m (holds-stay (fresh (x .switches)) (take (x .last) (x .entries))) r p ∙
       ap (λ z. entry-says b z m) (sym t) ∙
-      sym (follows (fresh (x .switches)) (take (x .last) (x .entries)) (x .switches) i (i + 1) m (omega (arith, length-take-le (x .last) (x .entries) (omega arith))) h (omega arith) (rw t p)) in
+      sym (follows (fresh (x .switches)) (take (x .last) (x .entries)) (x .switches) i (i + 1) m (omega (arith, length-take-le (x .last) (x .entries) (omega arith))) (rw (← width) h) (omega arith) (rw t p)) in
       ⊎-elim
       (λ (q : j ≡ i + 1). rw (q, getD-set-same answers (i + 1) y false (omega arith)) new)
       (λ (q : j ≢ i + 1). rw (getD-set-other answers (i + 1) j y false (omega arith)) (r j (omega arith)))

@@ -1,8 +1,9 @@
 // The row book's making and calls.
 ghost use mathlib.Core.Path.{_≡_};
 ghost use mathlib.Core.Bool.{true};
-ghost use Prim.Native.Nat.{_<_, _≤_, _^_};
-ghost use Rattle.guards.specs.Meaning.{says, made};
+ghost use Prim.Native.Nat.{_<_};
+ghost use lib.ListN.{length};
+ghost use Rattle.guards.specs.Meaning.{says, modes, made};
 ghost use Rattle.guards.specs.Calls.{named};
 ghost use Rattle.rowbook.specs.Rows.{of-rows, says-by};
 use crate::RowBook;
@@ -43,7 +44,7 @@ impl RowBook {
 
     // The answer of a standing guard, by one pass over the entries before it and its own.
     fn answer(&self, guard: usize, mode: usize) -> bool
-        requires { ⌜ guard ≤ now self .last ⌝ ∗ ⌜ mode < 2 ^ now self .switches ⌝ }
+        requires { ⌜ guard < length (of-rows (now self) .guards) ⌝ ∗ ⌜ mode < modes (of-rows (now self)) ⌝ }
         ensures { λ r. ⌜ r ≡ says (of-rows (now (self .entry))) guard mode ⌝ }
     {
         let mut answers = [true; 64];
@@ -81,10 +82,10 @@ pub impl GuardBook for RowBook as RowGuardBook {
     }
 
     fn ask(&self, guard: usize, mode: usize) -> Result<bool, Fault> {
-        if guard > self.last {
+        if guard >= self.guards() {
             return Err(Fault::NoSuchGuard);
         }
-        if mode >= 1 << self.switches {
+        if mode >= self.modes() {
             return Err(Fault::NoSuchMode);
         }
         Ok(self.answer(guard, mode))

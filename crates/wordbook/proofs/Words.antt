@@ -66,9 +66,9 @@ module _ (x : WordBook) where
   pushed at last′ w e p q l bits =
       rw (p, q)
       (ap (of-guards (x .switches))
-        (ap (map (word-row (modes (of-words x)))) (take-more-set (x .words) (x .last + 1) w (omega arith)) ∙
-          map-append (word-row (modes (of-words x))) (take (x .last + 1) (x .words)) (w ∷ []) ∙
-          ap (λ r. of-words x .guards ++ (r ∷ [])) (row-same (modes (of-words x)) (λ m. on-in m w) (entry-says (of-words x) e) bits)))
+      (ap (map (word-row (modes (of-words x)))) (take-more-set (x .words) (x .last + 1) w (omega arith)) ∙
+      map-append (word-row (modes (of-words x))) (take (x .last + 1) (x .words)) (w ∷ []) ∙
+      ap (λ r. of-words x .guards ++ (r ∷ [])) (row-same (modes (of-words x)) (λ m. on-in m w) (entry-says (of-words x) e) bits)))
 
   pub sound : Sound 6 (of-words x)
   sound = record {

@@ -2,8 +2,8 @@
 ghost use mathlib.Core.Bool.{true};
 ghost use mathlib.Core.Path.{_≡_};
 ghost use Prim.Native.Nat.{ℕ, _+_, _<_};
-ghost use lib.ListN.{getD};
-ghost use Rattle.guards.specs.Meaning.{on-in, modes, made};
+ghost use lib.ListN.{length, getD};
+ghost use Rattle.guards.specs.Meaning.{on-in, says, modes, made};
 ghost use Rattle.guards.specs.Calls.{named, entry-says};
 ghost use Rattle.wordbook.specs.Words.{of-words, switch-words, Switch-words-rule};
 use crate::WordBook;
@@ -64,6 +64,14 @@ impl WordBook {
             Entry::Either(g, h) => self.words[g] | self.words[h],
         }
     }
+
+    // The answer of a standing guard.
+    fn bit(&self, guard: usize, mode: usize) -> bool
+        requires { ⌜ guard < length (of-words (now self) .guards) ⌝ ∗ ⌜ mode < modes (of-words (now self)) ⌝ }
+        ensures { λ r. ⌜ r ≡ says (of-words (now (self .entry))) guard mode ⌝ }
+    {
+        (self.words[guard] >> mode) & 1 == 1
+    }
 }
 
 pub impl GuardBook for WordBook as WordGuardBook {
@@ -94,12 +102,12 @@ pub impl GuardBook for WordBook as WordGuardBook {
     }
 
     fn ask(&self, guard: usize, mode: usize) -> Result<bool, Fault> {
-        if guard > self.last {
+        if guard >= self.guards() {
             return Err(Fault::NoSuchGuard);
         }
-        if mode >= 1 << self.switches {
+        if mode >= self.modes() {
             return Err(Fault::NoSuchMode);
         }
-        Ok((self.words[guard] >> mode) & 1 == 1)
+        Ok(self.bit(guard, mode))
     }
 }
