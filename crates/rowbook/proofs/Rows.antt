@@ -136,9 +136,9 @@ module _ (x : RowBook) where
   always : (m : ℕ) → m < 2 ^ x .switches → says (of-rows x) 0 m ≡ true
   always m l = says-stay (fresh (x .switches)) (take (x .last) (x .entries)) 0 m (omega arith) ∙ row-at (2 ^ x .switches) (λ _. true) m l
 
-  pub right-none : (m : ℕ) → m < modes (of-rows x) → Right (replicate 64 true) 1 (of-rows x) m
-  right-none m l zero h = sym (always m (rw (← width) l))
-  right-none m l (suc j) h = absurd (omega arith)
+  pub right-none : (y : Bool) (m : ℕ) → y ≡ true → m < modes (of-rows x) → Right (replicate 64 y) 1 (of-rows x) m
+  right-none y m e l zero h = e ∙ sym (always m (rw (← width) l))
+  right-none y m e l (suc j) h = absurd (omega arith)
 
   -- the answer of one entry more
   pub right-more : (answers : List Bool) (i m : ℕ) (y : Bool) → length answers ≡ 64 → i < x .last → m < modes (of-rows x) → Right answers (i + 1) (of-rows x) m → y ≡ says-by answers (getD (x .entries) i (Switch 0)) m → Right (set answers (i + 1) y) (i + 1 + 1) (of-rows x) m

@@ -8,14 +8,16 @@ use native.Mathlib.Nat.{pow-le-pow-right}
 use lib.Bits.{bitAnd, bitOr}
 use lib.ListN.{length, take, set, getD, replicate}
 use Rattle.std.proofs.shelf.Lists.{length-take-le, length-map, length-replicate, map-append, take-more-set, getD-map, getD-take}
+use Rattle.std.proofs.shelf.Tests.{ltb-true}
 use Rattle.guards.specs.declared.entry.Entry.{Entry}
 use Rattle.guards.specs.declared.entry.Entry.the-variants.{Switch, Not, Both, Either}
 use Rattle.guards.specs.Meaning.{Meaning, Sound, free, says, on-in, row, modes, with-guard, fresh}
-use Rattle.guards.specs.Calls.{entry-says}
+use Rattle.guards.specs.Calls.{named, entry-says}
+use Rattle.guards.proofs.Entries.{both-named}
 use Rattle.guards.proofs.Bits.{on-and, on-or, on-not, on-none, seen-free}
 use Rattle.guards.proofs.Rows.{row-at, row-same, row-length}
 use Rattle.wordbook.specs.declared.WordBook.{WordBook}
-use Rattle.wordbook.specs.Words.{words-mean, of-words, word-row, switch-words}
+use Rattle.wordbook.specs.Words.{words-mean, of-words, word-row, entry-word}
 use Rattle.wordbook.proofs.Switches.{switch-rule}
 
 pub below-64 : (k m : ℕ) → k ≤ 6 → m < 2 ^ k → m < 64
@@ -28,8 +30,8 @@ abbrev of-guards : ℕ → List (List Bool) → Meaning
 of-guards k gs = record { switches = k; holds = replicate k free; guards = gs }
 
 -- a book whose one word is all ones
-pub fresh-is : (k : ℕ) (ws : List ℕ) → k ≤ 6 → words-mean k 1 ((2 ^ 64 - 1) ∷ ws) ≡ fresh k
-fresh-is k ws h = ap (λ r. of-guards k (r ∷ [])) (row-same (2 ^ k) (λ m. on-in m (2 ^ 64 - 1)) (λ _. true) (λ m l. all-ones k m h l))
+pub fresh-is : (k w : ℕ) (ws : List ℕ) → k ≤ 6 → w ≡ 2 ^ 64 - 1 → words-mean k 1 (w ∷ ws) ≡ fresh k
+fresh-is k w ws h e = rw e (ap (λ r. of-guards k (r ∷ [])) (row-same (2 ^ k) (λ m. on-in m (2 ^ 64 - 1)) (λ _. true) (λ m l. all-ones k m h l)))
 
 module _ (x : WordBook) where
   pub count : length (of-words x .guards) ≡ x .last + 1
@@ -44,31 +46,32 @@ module _ (x : WordBook) where
   pub word-says : (g m : ℕ) → g < x .last + 1 → m < modes (of-words x) → says (of-words x) g m ≡ on-in m (getD (x .words) g 0)
   word-says g m l b = ap (λ r. getD r m false) (row-of g l) ∙ row-at (modes (of-words x)) (λ i. on-in i (getD (x .words) g 0)) m b
 
-  -- the words of the four entries
-  pub switch-bit : (s m : ℕ) → s < x .switches → m < modes (of-words x) → on-in m (getD switch-words s 0) ≡ entry-says (of-words x) (Switch s) m
-  switch-bit s m l b = switch-rule s (omega arith) m (below-64 (x .switches) m (x .few) b) ∙ ap (on-in s) (sym (seen-free (x .switches) m))
-
-  pub not-bit : (g m : ℕ) → g < x .last + 1 → m < modes (of-words x) → getD (x .words) g 0 < 2 ^ 64 → on-in m ((2 ^ 64 - 1) - getD (x .words) g 0) ≡ entry-says (of-words x) (Not g) m
-  not-bit g m l b f = on-not 64 m (getD (x .words) g 0) (below-64 (x .switches) m (x .few) b) f ∙ ap not (sym (word-says g m l b))
-
-  pub both-bit : (g h m : ℕ) → g < x .last + 1 → h < x .last + 1 → m < modes (of-words x) → on-in m (bitAnd (getD (x .words) g 0) (getD (x .words) h 0)) ≡ entry-says (of-words x) (Both g h) m
-  both-bit g h m l r b =
-      on-and m (getD (x .words) g 0) (getD (x .words) h 0) ∙ ap (λ y. y && on-in m (getD (x .words) h 0)) (sym (word-says g m l b)) ∙
-      ap (λ y. says (of-words x) g m && y) (sym (word-says h m r b))
-
-  pub either-bit : (g h m : ℕ) → g < x .last + 1 → h < x .last + 1 → m < modes (of-words x) → on-in m (bitOr (getD (x .words) g 0) (getD (x .words) h 0)) ≡ entry-says (of-words x) (Either g h) m
-  either-bit g h m l r b =
-      on-or m (getD (x .words) g 0) (getD (x .words) h 0) ∙ ap (λ y. y || on-in m (getD (x .words) h 0)) (sym (word-says g m l b)) ∙
-      ap (λ y. says (of-words x) g m || y) (sym (word-says h m r b))
+  -- bit m of an entry's word is what the entry says in the mode m
+  entry-bit : (e : Entry) (m : ℕ) → named (x .switches) (x .last + 1) e ≡ true → ((g : ℕ) → getD (x .words) g 0 < 2 ^ 64) → m < modes (of-words x) → on-in m (entry-word (x .words) e) ≡ entry-says (of-words x) e m
+  entry-bit (Switch s) m p f b =
+      let l = ltb-true s (x .switches) p in
+      switch-rule s (omega arith) m (below-64 (x .switches) m (x .few) b) ∙ ap (on-in s) (sym (seen-free (x .switches) m))
+  entry-bit (Not g) m p f b =
+      let l = ltb-true g (x .last + 1) p in
+      on-not 64 m (getD (x .words) g 0) (below-64 (x .switches) m (x .few) b) (f g) ∙ ap not (sym (word-says g m l b))
+  entry-bit (Both g h) m p f b =
+      let l = both-named g h (x .last + 1) p in
+      on-and m (getD (x .words) g 0) (getD (x .words) h 0) ∙ ap (λ y. y && on-in m (getD (x .words) h 0)) (sym (word-says g m (l .0) b)) ∙
+      ap (λ y. says (of-words x) g m && y) (sym (word-says h m (l .1) b))
+  entry-bit (Either g h) m p f b =
+      let l = both-named g h (x .last + 1) p in
+      on-or m (getD (x .words) g 0) (getD (x .words) h 0) ∙ ap (λ y. y || on-in m (getD (x .words) h 0)) (sym (word-says g m (l .0) b)) ∙
+      ap (λ y. says (of-words x) g m || y) (sym (word-says h m (l .1) b))
 
   -- one word more
-  pub pushed : (at last′ w : ℕ) (e : Entry) → at ≡ x .last + 1 → last′ ≡ x .last + 1 → x .last + 1 < 64 → ((m : ℕ) → m < modes (of-words x) → on-in m w ≡ entry-says (of-words x) e m) → words-mean (x .switches) (last′ + 1) (set (x .words) at w) ≡ with-guard (of-words x) (entry-says (of-words x) e)
-  pushed at last′ w e p q l bits =
-      rw (p, q)
+  pub pushed : (at last′ w : ℕ) (e : Entry) → at ≡ x .last + 1 → last′ ≡ x .last + 1 → x .last + 1 < 64 → w ≡ entry-word (x .words) e → named (x .switches) (x .last + 1) e ≡ true → ((g : ℕ) → getD (x .words) g 0 < 2 ^ 64) → words-mean (x .switches) (last′ + 1) (set (x .words) at w) ≡ with-guard (of-words x) (entry-says (of-words x) e)
+  pushed at last′ w e p q l r names fits =
+      rw (p, q, r)
       (ap (of-guards (x .switches))
-      (ap (map (word-row (modes (of-words x)))) (take-more-set (x .words) (x .last + 1) w (omega arith)) ∙
-      map-append (word-row (modes (of-words x))) (take (x .last + 1) (x .words)) (w ∷ []) ∙
-      ap (λ r. of-words x .guards ++ (r ∷ [])) (row-same (modes (of-words x)) (λ m. on-in m w) (entry-says (of-words x) e) bits)))
+      (ap (map (word-row (modes (of-words x)))) (take-more-set (x .words) (x .last + 1) (entry-word (x .words) e) (omega arith)) ∙
+      map-append (word-row (modes (of-words x))) (take (x .last + 1) (x .words)) (entry-word (x .words) e ∷ []) ∙
+      ap (λ y. of-words x .guards ++ (y ∷ []))
+      (row-same (modes (of-words x)) (λ m. on-in m (entry-word (x .words) e)) (entry-says (of-words x) e) (λ m b. entry-bit e m names fits b))))
 
   pub sound : Sound 6 (of-words x)
   sound = record {

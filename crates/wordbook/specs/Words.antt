@@ -2,8 +2,11 @@
 use mathlib.Core.List.{List, [], _∷_, map}
 use mathlib.Core.Path.{_≡_}
 use mathlib.Core.Bool.{Bool}
-use Prim.Native.Nat.{ℕ, _+_, _^_, _<_}
+use Prim.Native.Nat.{ℕ, _+_, _-_, _^_, _<_}
+use lib.Bits.{bitAnd, bitOr}
 use lib.ListN.{take, replicate, getD}
+use Rattle.guards.specs.declared.entry.Entry.{Entry}
+use Rattle.guards.specs.declared.entry.Entry.the-variants.{Switch, Not, Both, Either}
 use Rattle.guards.specs.Meaning.{Meaning, free, on-in, row}
 use Rattle.wordbook.specs.declared.WordBook.{WordBook}
 
@@ -25,3 +28,10 @@ switch-words = 0xAAAA_AAAA_AAAA_AAAA ∷ 0xCCCC_CCCC_CCCC_CCCC ∷ 0xF0F0_F0F0_F
 -- bit m of the word of switch s is bit s of m
 abbrev pub Switch-words-rule : Type 0
 Switch-words-rule = (s : ℕ) → s < 6 → (m : ℕ) → m < 64 → on-in m (getD switch-words s 0) ≡ on-in s m
+
+-- the word of an entry, by the words of the guards
+abbrev pub entry-word : List ℕ → Entry → ℕ
+entry-word ws (Switch s) = getD switch-words s 0
+entry-word ws (Not g) = (2 ^ 64 - 1) - getD ws g 0
+entry-word ws (Both g h) = bitAnd (getD ws g 0) (getD ws h 0)
+entry-word ws (Either g h) = bitOr (getD ws g 0) (getD ws h 0)

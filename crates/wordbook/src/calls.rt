@@ -1,11 +1,11 @@
 // The word book's making and calls.
 ghost use mathlib.Core.Bool.{true};
 ghost use mathlib.Core.Path.{_≡_};
-ghost use Prim.Native.Nat.{ℕ, _+_, _<_};
-ghost use lib.ListN.{length, getD};
-ghost use Rattle.guards.specs.Meaning.{on-in, says, modes, made};
-ghost use Rattle.guards.specs.Calls.{named, entry-says};
-ghost use Rattle.wordbook.specs.Words.{of-words, switch-words, Switch-words-rule};
+ghost use Prim.Native.Nat.{_+_, _<_};
+ghost use lib.ListN.{length};
+ghost use Rattle.guards.specs.Meaning.{says, modes, made};
+ghost use Rattle.guards.specs.Calls.{named};
+ghost use Rattle.wordbook.specs.Words.{of-words, entry-word, Switch-words-rule};
 use crate::WordBook;
 use faults::Fault;
 use guards::GuardBook;
@@ -20,13 +20,6 @@ const SWITCH_WORDS: [u64; 6] = [
     0xFFFF_0000_FFFF_0000,
     0xFFFF_FFFF_0000_0000,
 ];
-
-fn switch_word(s: usize) -> u64
-    requires { ⌜ s < 6 ⌝ }
-    ensures { λ r. ⌜ r ≡ getD switch-words s 0 ⌝ }
-{
-    SWITCH_WORDS[s]
-}
 
 // Bit m of the word of a switch is that switch's bit of m.
 pub fn switch_words_stand() -> u8
@@ -55,10 +48,10 @@ impl WordBook {
     // The word of an entry.
     fn word(&self, entry: Entry) -> u64
         requires { ⌜ named (now self .switches) (now self .last + 1) entry ≡ true ⌝ }
-        ensures { λ r. ⌜ ((m : ℕ) → m < modes (of-words (now (self .entry))) → on-in m r ≡ entry-says (of-words (now (self .entry))) entry m) ⌝ }
+        ensures { λ r. ⌜ r ≡ entry-word (now (self .entry) .words) entry ⌝ }
     {
         match entry {
-            Entry::Switch(s) => switch_word(s),
+            Entry::Switch(s) => SWITCH_WORDS[s],
             Entry::Not(g) => !self.words[g],
             Entry::Both(g, h) => self.words[g] & self.words[h],
             Entry::Either(g, h) => self.words[g] | self.words[h],

@@ -1,5 +1,3 @@
-use mathlib.Core.Path.{sym, ap, _∙_}
-use Rattle.guards.specs.Calls.{asked}
 use Rattle.heldbook.proofs.Over.{held-asked}
 use Rattle.heldbook.proofs.HeldGuardBook.ask.Needs as need
 
@@ -7,5 +5,7 @@ pub returns : need.returns
 returns g c =
     let x = c .args .self .now in
     let b = g .B·GuardBook .meaning (x .below) in
-    c .ask .ensures ∙ ap (asked b (c .args .guard)) (c .put .ensures) ∙
-    sym (held-asked (x .switch) (x .on) b _ (g .B·GuardBook·met .sound (x .below)) (c .args .guard) (c .args .mode))
+    let asks = c .ask .ensures in
+    let puts = c .put .ensures in
+    let held = held-asked (x .switch) (x .on) b _ (g .B·GuardBook·met .sound (x .below)) (c .args .guard) (c .args .mode) in
+    cc

@@ -7,8 +7,10 @@ pub returns : need.returns
 returns g c =
     let x = c .args .self .now in
     let b = g .B·GuardBook .meaning (x .below) in
-    let s = g .B·GuardBook·met .sound (x .below) in
+    let sound = g .B·GuardBook·met .sound (x .below) in
+    let given = c .enter .ensures .given in
+    let answers = held-answers (x .switch) (x .on) b _ sound (c .args .entry) in
     record {
-      given = c .enter .ensures .given ∙ sym (held-answers (x .switch) (x .on) b _ s (c .args .entry));
-      left = ap (held (x .switch) (x .on)) (c .enter .ensures .left) ∙ sym (held-after (x .switch) (x .on) b _ s (c .args .entry));
+      given = cc;
+      left = ap (held (x .switch) (x .on)) (c .enter .ensures .left) ∙ sym (held-after (x .switch) (x .on) b _ sound (c .args .entry));
     }

@@ -5,7 +5,7 @@ use Rattle.rowbook.proofs.Rows.{count, within, right-none, right-more}
 use Rattle.rowbook.proofs.RowBook.answer.Needs as need
 
 pub loop-i-holds : need.loop-i-holds
-loop-i-holds c = (refl, right-none (c .args .self .now) (c .args .mode) (c .pre .1))
+loop-i-holds c = (refl, right-none (c .args .self .now) _ (c .args .mode) refl (c .pre .1))
 
 pub loop-i-again : need.loop-i-again
 loop-i-again c =

@@ -1,4 +1,4 @@
-use mathlib.Core.Path.{sym, ap, _∙_}
+use mathlib.Core.Path.{refl, sym, ap, _∙_}
 use mathlib.Core.List.{[]}
 use native.Mathlib.Omega.{arith}
 use lib.Dec.{ltb}
@@ -12,6 +12,6 @@ pub returns : need.returns
 returns c =
     let k = c .args .switches in
     elim (c .if-switches-limit .came) [
-      | then-switches-limit w ↦ rw (w .switches-is) (fresh-is 0 [] (omega arith) ∙ ap fresh (sym (cond-true (ltb 6 k) 0 k (lt-ltb 6 k (omega arith)))))
-      | else-switches-limit w ↦ rw (w .switches-is) (fresh-is k [] (omega arith) ∙ ap fresh (sym (cond-false (ltb 6 k) 0 k (le-ltb 6 k (omega arith)))))
+      | then-switches-limit w ↦ rw (w .switches-is) (fresh-is 0 _ [] (omega arith) refl ∙ ap fresh (sym (cond-true (ltb 6 k) 0 k (lt-ltb 6 k (omega arith)))))
+      | else-switches-limit w ↦ rw (w .switches-is) (fresh-is k _ [] (omega arith) refl ∙ ap fresh (sym (cond-false (ltb 6 k) 0 k (le-ltb 6 k (omega arith)))))
     ]

@@ -1,5 +1,6 @@
 use mathlib.Core.Path.{refl}
 use Prim.Native.Nat.{_+_}
+use borrow.Author.Needs.{needs}
 use native.Mathlib.Omega.{arith}
 use Rattle.std.proofs.shelf.Results.{err-from-errBy}
 use Rattle.guards.proofs.Entries.{accepted, entered, refused}
@@ -23,4 +24,4 @@ returns c =
     let b = c .args .self .now in
     let a = accepted (b .switches) (b .last + 1) (c .args .entry) (c .in-Continue-n .n) (c .in-Continue-n .ensures tt) in
     entered (of-words b) (b .switches) (b .last + 1) refl (count b) (c .args .entry) (c .in-Continue-n .n) _ (c .in-Continue-n .ensures tt)
-    (pushed b _ _ (c .word-word .result) (c .args .entry) (omega arith) (omega arith) (a .space) (c .word-word .ensures))
+    (pushed b _ _ _ (c .args .entry) (omega arith) (omega arith) (a .space) (c .word-word .ensures) (a .names) (λ g. search needs))
