@@ -8,7 +8,7 @@ use lib.Dec.{ltb}
 use lib.ListN.{length}
 use Rattle.std.specs.declared.result.Result.{Result}
 use Rattle.std.specs.declared.result.Result.the-variants.{Ok, Err}
-use Rattle.std.specs.Vec.{made as taken}
+use Rattle.std.specs.Vec.{made}
 use Rattle.std.proofs.shelf.Lists.{length-append}
 use Rattle.std.proofs.shelf.Tests.{lt-ltb, le-ltb, ltb-true}
 use Rattle.faults.specs.declared.Fault.{Fault}
@@ -16,7 +16,7 @@ use Rattle.faults.specs.declared.Fault.the-variants.{NoSuchGuard, GuardsFull, N
 use Rattle.faults.specs.Refusals.{Refusal, refusal, told}
 use Rattle.guards.specs.declared.entry.Entry.{Entry}
 use Rattle.guards.specs.Meaning.{Meaning, says, modes, row, with-guard}
-use Rattle.guards.specs.Calls.{named, missing, where-so, admitted, settle, answer, after, entry-says, asked, Entered}
+use Rattle.guards.specs.Calls.{named, missing, provided, admitted, settle, answer, after, entry-says, asked, Entered}
 
 -- an accepted entry: what it names stands, there is room, and it takes the next number
 pub record Accepted (k n : ℕ) (e : Entry) (x : ℕ) : Type 0 where
@@ -24,13 +24,13 @@ pub record Accepted (k n : ℕ) (e : Entry) (x : ℕ) : Type 0 where
   pub space : n < 64
   pub number : x ≡ n
 
-passed : {A : Type 0} (test : Bool) (f : Fault) (next : Result A Refusal) (a : A) → Ok a ≡ where-so test f next → (test ≡ true) × (Ok a ≡ next)
+passed : {A : Type 0} (test : Bool) (f : Fault) (next : Result A Refusal) (a : A) → Ok a ≡ provided test f next → (test ≡ true) × (Ok a ≡ next)
 passed true f next a e = (refl, e)
 passed false f next a e = absurd (let z : _≡_ {A = ℕ} 0 1 = cc in omega arith)
 
 pub accepted : (k n : ℕ) (e : Entry) (x : ℕ) → told (Ok x) ≡ admitted k n e → Accepted k n e x
 accepted k n e x a =
-    let p = passed (named k n e) (missing e) (where-so (ltb n 64) GuardsFull (Ok n)) x a in
+    let p = passed (named k n e) (missing e) (provided (ltb n 64) GuardsFull (Ok n)) x a in
     let q = passed (ltb n 64) GuardsFull (Ok n) x (p .1) in
     record { names = p .0; space = ltb-true n 64 (q .0); number = let o = q .1 in cc }
 
@@ -68,7 +68,7 @@ module _ (b : Meaning) (k n : ℕ) (w : b .switches ≡ k) (c : length (b .guard
   answered g m y h l e = ap (λ v. Ok v) e ∙ sym (rw (c, w, lt-ltb g n h, lt-ltb m (2 ^ k) l) refl)
 
 -- an accepted entry makes the guards one more
-pub one-more : (b : Meaning) (e : Entry) (r : Result ℕ Fault) (x : Meaning) → Entered b e r x → taken r (λ _. length (x .guards) ≡ length (b .guards) + 1)
+pub one-more : (b : Meaning) (e : Entry) (r : Result ℕ Fault) (x : Meaning) → Entered b e r x → made r (λ _. length (x .guards) ≡ length (b .guards) + 1)
 one-more b e (Err f) x h = tt
 one-more b e (Ok n) x h =
     ap (λ y. length (y .guards)) (h .left ∙ ap (λ r. settle r (with-guard b (entry-says b e)) b) (sym (h .given))) ∙

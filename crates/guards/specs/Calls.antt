@@ -35,12 +35,12 @@ missing (Both g h) = NoSuchGuard
 missing (Either g h) = NoSuchGuard
 
 -- goes on where a test passes, and declines otherwise
-abbrev pub where-so : {A : Type 0} → Bool → Fault → Result A Refusal → Result A Refusal
-where-so test f next = cond test next (Err (refusal f))
+abbrev pub provided : {A : Type 0} → Bool → Fault → Result A Refusal → Result A Refusal
+provided test f next = cond test next (Err (refusal f))
 
 -- what an entry answers where there are k switches and n guards: the next number, while fewer than 64 stand
 abbrev pub admitted : ℕ → ℕ → Entry → Result ℕ Refusal
-admitted k n e = where-so (named k n e) (missing e) (where-so (ltb n 64) GuardsFull (Ok n))
+admitted k n e = provided (named k n e) (missing e) (provided (ltb n 64) GuardsFull (Ok n))
 
 abbrev pub answer : Meaning → Entry → Result ℕ Refusal
 answer b e = admitted (b .switches) (length (b .guards)) e
@@ -61,4 +61,4 @@ pub record Entered (b : Meaning) (e : Entry) (r : Result ℕ Fault) (x : Meaning
 
 -- what a question answers
 abbrev pub asked : Meaning → ℕ → ℕ → Result Bool Refusal
-asked b g m = where-so (ltb g (length (b .guards))) NoSuchGuard (where-so (ltb m (modes b)) NoSuchMode (Ok (says b g m)))
+asked b g m = provided (ltb g (length (b .guards))) NoSuchGuard (provided (ltb m (modes b)) NoSuchMode (Ok (says b g m)))

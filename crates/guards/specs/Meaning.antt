@@ -53,8 +53,8 @@ abbrev pub fresh : ℕ → Meaning
 fresh k = record { switches = k; holds = replicate k free; guards = row (2 ^ k) (λ _. true) ∷ [] }
 
 -- a new book of a kind that takes at most `most` switches
-abbrev pub made : ℕ → ℕ → Meaning
-made most k = fresh (cond (ltb most k) 0 k)
+abbrev pub new-book : ℕ → ℕ → Meaning
+new-book most k = fresh (cond (ltb most k) 0 k)
 
 -- what every kind owes
 pub record Sound (most : ℕ) (b : Meaning) : Type 0 where

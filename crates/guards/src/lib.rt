@@ -8,7 +8,7 @@ ghost use Rattle.faults.specs.Refusals.{told, bare};
 ghost use Rattle.guards.specs.declared.entry.Entry.the-variants.{Switch, Not, Both, Either};
 ghost use Rattle.guards.specs.Meaning.{Meaning, Sound, modes, Seen-by-switch};
 ghost use Rattle.guards.specs.Calls.{Entered, admitted, asked};
-use entry::Entry;
+pub use entry::Entry;
 use faults::Fault;
 
 pub mod entry;

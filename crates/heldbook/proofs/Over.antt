@@ -16,7 +16,7 @@ use Rattle.faults.specs.Refusals.{Refusal}
 use Rattle.guards.specs.declared.entry.Entry.{Entry}
 use Rattle.guards.specs.declared.entry.Entry.the-variants.{Switch, Not, Both, Either}
 use Rattle.guards.specs.Meaning.{Meaning, Sound, Hold, free, seen, says, row, modes, with-guard, on-in}
-use Rattle.guards.specs.Calls.{entry-says, admitted, answer, settle, after, asked, where-so}
+use Rattle.guards.specs.Calls.{entry-says, admitted, answer, settle, after, asked, provided}
 use Rattle.guards.proofs.Bits.{seen-lt, seen-ge}
 use Rattle.guards.proofs.Rows.{row-at, row-same, row-length}
 use Rattle.heldbook.specs.Held.{hold-of, alone, over, held-row, holding, held, put-mode}
@@ -79,11 +79,11 @@ module _ (s : ℕ) (h : Hold) (b : Meaning) (in-book : s < b .switches) (one-eac
       ap (λ x. settle (answer b e) x (holding s h b)) (held-with e) ∙ settled (holding s h) (answer b e) (with-guard b (entry-says b e)) b
 
   abbrev ask-by : ℕ → Bool → Bool → Result Bool Refusal
-  ask-by g t y = where-so (ltb g (length (b .guards))) NoSuchGuard (where-so t NoSuchMode (Ok y))
+  ask-by g t y = provided (ltb g (length (b .guards))) NoSuchGuard (provided t NoSuchMode (Ok y))
 
   holding-asked : (g m : ℕ) → asked (holding s h b) g m ≡ asked b g (seen (alone s h) m)
   holding-asked g m =
-      ap (λ n. where-so (ltb g n) NoSuchGuard (where-so (ltb m (modes b)) NoSuchMode (Ok (says (holding s h b) g m)))) held-count ∙
+      ap (λ n. provided (ltb g n) NoSuchGuard (provided (ltb m (modes b)) NoSuchMode (Ok (says (holding s h b) g m)))) held-count ∙
       ⊎-elim
       (λ l. rw (lt-ltb m (modes b) l, lt-ltb (seen (alone s h) m) (modes b) (seen-lt (alone s h) (b .switches) m reach l)) (ap (ask-by g true) (rows-say s h (modes b) (b .guards) g m l)))
       (λ l. rw (le-ltb m (modes b) l, le-ltb (seen (alone s h) m) (modes b) (seen-ge (alone s h) (b .switches) m reach l)) refl)

@@ -7,8 +7,8 @@ ghost use Rattle.faults.specs.Refusals.{bare};
 ghost use Rattle.guards.specs.Meaning.{seen};
 ghost use Rattle.heldbook.specs.Held.{alone, held, hold-of, of-held, put-mode};
 use faults::Fault;
+use guards::Entry;
 use guards::GuardBook;
-use guards::entry::Entry;
 
 // holds nothing where the book below has no such switch
 #[derive(Drop)]

@@ -3,14 +3,14 @@ ghost use mathlib.Core.Path.{_≡_};
 ghost use mathlib.Core.Bool.{true};
 ghost use Prim.Native.Nat.{_<_};
 ghost use lib.ListN.{length};
-ghost use Rattle.guards.specs.Meaning.{says, modes, made};
+ghost use Rattle.guards.specs.Meaning.{says, modes, new-book};
 ghost use Rattle.guards.specs.Calls.{named};
 ghost use Rattle.rowbook.specs.Rows.{of-rows, says-by};
 use crate::RowBook;
 use faults::Fault;
+use guards::Entry;
 use guards::GuardBook;
 use guards::admit;
-use guards::entry::Entry;
 
 // What an entry says in a mode, by the answers of the guards before it.
 fn worked(entry: Entry, mode: usize, answers: &[bool; 64]) -> bool
@@ -28,7 +28,7 @@ fn worked(entry: Entry, mode: usize, answers: &[bool; 64]) -> bool
 impl RowBook {
     // A book with free switches and guard 0 alone; without switches where `check_switches` would refuse them.
     pub fn new(switches: usize) -> Self
-        ensures { λ r. ⌜ of-rows r ≡ made 16 switches ⌝ }
+        ensures { λ r. ⌜ of-rows r ≡ new-book 16 switches ⌝ }
     {
         let switches = if switches > Self::limit() {
             0

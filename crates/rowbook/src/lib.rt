@@ -6,7 +6,7 @@ ghost use lib.ListN.{length, getD};
 ghost use Rattle.guards.specs.declared.entry.Entry.the-variants.{Switch};
 ghost use Rattle.guards.specs.Calls.{named};
 pub use calls::RowGuardBook;
-use guards::entry::Entry;
+use guards::Entry;
 
 mod calls;
 

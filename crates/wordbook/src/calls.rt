@@ -3,14 +3,14 @@ ghost use mathlib.Core.Bool.{true};
 ghost use mathlib.Core.Path.{_≡_};
 ghost use Prim.Native.Nat.{_+_, _<_};
 ghost use lib.ListN.{length};
-ghost use Rattle.guards.specs.Meaning.{says, modes, made};
+ghost use Rattle.guards.specs.Meaning.{says, modes, new-book};
 ghost use Rattle.guards.specs.Calls.{named};
 ghost use Rattle.wordbook.specs.Words.{of-words, entry-word, Switch-words-rule};
 use crate::WordBook;
 use faults::Fault;
+use guards::Entry;
 use guards::GuardBook;
 use guards::admit;
-use guards::entry::Entry;
 
 const SWITCH_WORDS: [u64; 6] = [
     0xAAAA_AAAA_AAAA_AAAA,
@@ -31,7 +31,7 @@ pub fn switch_words_stand() -> u8
 impl WordBook {
     // A book with free switches and guard 0 alone; without switches where `check_switches` would refuse them.
     pub fn new(switches: usize) -> Self
-        ensures { λ r. ⌜ of-words r ≡ made 6 switches ⌝ }
+        ensures { λ r. ⌜ of-words r ≡ new-book 6 switches ⌝ }
     {
         let switches = if switches > Self::limit() {
             0
