@@ -10,13 +10,13 @@ use Rattle.std.specs.declared.result.Result.{Result}
 use Rattle.std.specs.declared.result.Result.the-variants.{Ok, Err}
 use Rattle.std.specs.Vec.{made}
 use Rattle.std.proofs.shelf.Lists.{length-append}
-use Rattle.std.proofs.shelf.Tests.{lt-ltb, le-ltb, ltb-true}
+use Rattle.std.proofs.shelf.Tests.{lt-ltb, le-ltb, ltb-true, and-parts}
 use Rattle.faults.specs.declared.Fault.{Fault}
 use Rattle.faults.specs.declared.Fault.the-variants.{NoSuchGuard, GuardsFull, NoSuchMode}
 use Rattle.faults.specs.Refusals.{Refusal, refusal, told}
 use Rattle.guards.specs.declared.entry.Entry.{Entry}
 use Rattle.guards.specs.Meaning.{Meaning, says, modes, row, with-guard}
-use Rattle.guards.specs.Calls.{named, missing, provided, admitted, settle, answer, after, entry-says, asked, Entered}
+use Rattle.guards.specs.Calls.{named, missing, provided, admitted, settle, answer, entry-says, asked, Entered}
 
 -- an accepted entry: what it names stands, there is room, and it takes the next number
 pub record Accepted (k n : ℕ) (e : Entry) (x : ℕ) : Type 0 where
@@ -36,11 +36,7 @@ accepted k n e x a =
 
 -- both names of a pair stand
 pub both-named : (g h n : ℕ) → (ltb g n && ltb h n) ≡ true → (g < n) × (h < n)
-both-named g h n e = let p = and-true (ltb g n) (ltb h n) e in (ltb-true g n (p .0), ltb-true h n (p .1))
-  where
-    and-true : (a b : Bool) → (a && b) ≡ true → (a ≡ true) × (b ≡ true)
-    and-true true b e = (refl, e)
-    and-true false b e = absurd (let z : _≡_ {A = ℕ} 0 1 = cc in omega arith)
+both-named g h n e = let p = and-parts (ltb g n) (ltb h n) e in (ltb-true g n (p .0), ltb-true h n (p .1))
 
 module _ (b : Meaning) (k n : ℕ) (w : b .switches ≡ k) (c : length (b .guards) ≡ n) where
   counted : (e : Entry) → admitted k n e ≡ answer b e

@@ -1,25 +1,26 @@
 -- Laws of a held book, by the book below. Assumes nothing.
 use mathlib.Core.Path.{_≡_, refl, sym, ap, _∙_}
-use mathlib.Core.Bool.{Bool, true, false, cond, not, _&&_, _||_}
+use mathlib.Core.Bool.{Bool, true, false, not, _&&_, _||_}
 use mathlib.Core.List.{List, [], _∷_, _++_, map}
 use mathlib.Core.Logic.{⊎-elim}
-use Prim.Native.Nat.{ℕ, zero, suc, _+_, _^_, _<_, _≤_}
+use Prim.Native.Nat.{ℕ, zero, suc, _+_, _<_, _≤_}
 use native.Mathlib.Omega.{arith}
 use lib.Dec.{ltb}
-use lib.ListN.{length, getD, set, replicate, length-set}
+use lib.ListN.{length, getD, replicate, length-set}
 use Rattle.std.specs.declared.result.Result.{Result}
 use Rattle.std.specs.declared.result.Result.the-variants.{Ok, Err}
 use Rattle.std.proofs.shelf.Lists.{length-map, length-append, length-replicate, map-append, getD-map}
 use Rattle.std.proofs.shelf.Tests.{lt-ltb, le-ltb, cases-lt, cond-true, cond-false}
 use Rattle.faults.specs.declared.Fault.the-variants.{NoSuchGuard, NoSuchMode}
-use Rattle.faults.specs.Refusals.{Refusal}
+use Rattle.faults.specs.declared.Fault.{Fault}
+use Rattle.faults.specs.Refusals.{Refusal, told}
 use Rattle.guards.specs.declared.entry.Entry.{Entry}
 use Rattle.guards.specs.declared.entry.Entry.the-variants.{Switch, Not, Both, Either}
 use Rattle.guards.specs.Meaning.{Meaning, Sound, Hold, free, seen, says, row, modes, with-guard, on-in}
 use Rattle.guards.specs.Calls.{entry-says, admitted, answer, settle, after, asked, provided}
 use Rattle.guards.proofs.Bits.{seen-lt, seen-ge}
 use Rattle.guards.proofs.Rows.{row-at, row-same, row-length}
-use Rattle.heldbook.specs.Held.{hold-of, alone, over, held-row, holding, held, put-mode}
+use Rattle.heldbook.specs.Held.{hold-of, alone, held-row, holding, held, put-mode}
 use Rattle.heldbook.proofs.Put.{seen-put}
 
 -- the rows say what those below say in the put mode
@@ -128,7 +129,7 @@ module _ (s : ℕ) (at : Bool) (b : Meaning) (most : ℕ) (x : Sound most b) whe
       (λ l. ap (λ y. after y e) (held-out s at b l) ∙ sym (held-out s at (after b e) (omega arith)))
       (cases-lt s (b .switches))
 
-  pub held-asked : (g m : ℕ) → asked (held s at b) g m ≡ asked b g (put-mode s at b m)
+  held-asked : (g m : ℕ) → asked (held s at b) g m ≡ asked b g (put-mode s at b m)
   held-asked g m =
       ⊎-elim
       (λ l. rw (lt-ltb s (b .switches) l) (holding-asked s (hold-of at) b l (x .one-each) g m))
@@ -141,3 +142,7 @@ module _ (s : ℕ) (at : Bool) (b : Meaning) (most : ℕ) (x : Sound most b) whe
       (λ l. rw (held-in s at b l) (holding-sound s (hold-of at) b l (x .one-each) most x))
       (λ l. rw (held-out s at b l) x)
       (cases-lt s (b .switches))
+
+  -- what the book below answers, asked of the same guard in the put mode
+  pub asks-below : (r : Result Bool Fault) (g m g′ m′ : ℕ) → told r ≡ asked b g′ m′ → g′ ≡ g → m′ ≡ put-mode s at b m → told r ≡ asked (held s at b) g m
+  asks-below r g m g′ m′ below same put = below ∙ ap (λ n. asked b n m′) same ∙ ap (asked b g) put ∙ sym (held-asked g m)

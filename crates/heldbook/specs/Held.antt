@@ -36,7 +36,7 @@ holding s h b = record {
 abbrev pub held : ℕ → Bool → Meaning → Meaning
 held s at b = cond (ltb s (b .switches)) (holding s (hold-of at) b) b
 
--- the mode in which the book below is asked
+-- for a private function: the mode in which the book below is asked
 abbrev pub put-mode : ℕ → Bool → Meaning → ℕ → ℕ
 put-mode s at b m = cond (ltb s (b .switches)) (seen (alone s (hold-of at)) m) m
 

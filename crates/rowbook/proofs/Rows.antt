@@ -10,7 +10,7 @@ use Rattle.std.proofs.shelf.Lists.{length-take-le, length-append, length-replic
 use Rattle.std.proofs.shelf.Tests.{cases-eq, ltb-true, lt-ltb}
 use Rattle.guards.specs.declared.entry.Entry.{Entry}
 use Rattle.guards.specs.declared.entry.Entry.the-variants.{Switch, Not, Both, Either}
-use Rattle.guards.specs.Meaning.{Meaning, Sound, Hold, free, seen, says, on-in, row, modes, with-guard, fresh}
+use Rattle.guards.specs.Meaning.{Meaning, Sound, free, seen, says, on-in, row, modes, with-guard, fresh}
 use Rattle.guards.specs.Calls.{named, entry-says}
 use Rattle.guards.proofs.Entries.{both-named}
 use Rattle.guards.proofs.Bits.{seen-free}

@@ -17,7 +17,7 @@ with-all b (e ∷ es) = with-all (with-guard b (entry-says b e)) es
 abbrev pub of-rows : RowBook → Meaning
 of-rows x = with-all (fresh (x .switches)) (take (x .last) (x .entries))
 
--- what an entry says in the mode m where all switches are free, by the answers of the guards in that mode
+-- for a private function: what an entry says in the mode m where all switches are free, by the answers of the guards in that mode
 abbrev pub says-by : List Bool → Entry → ℕ → Bool
 says-by answers (Switch s) m = on-in s m
 says-by answers (Not g) m = not (getD answers g false)

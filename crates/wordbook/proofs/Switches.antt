@@ -1,41 +1,36 @@
--- The rule of the switch words, by one test over every switch and mode bit. Assumes nothing.
-use mathlib.Core.Path.{_≡_, refl, sym, ap, _∙_, subst}
-use mathlib.Core.Bool.{Bool, true, false, not}
+-- The rule of the switch words, by one test over every switch and mode that antt computes. Assumes nothing.
+use mathlib.Core.Path.{_≡_, refl, sym, ap, _∙_}
+use mathlib.Core.Bool.{Bool, true, false, not, _&&_}
 use mathlib.Core.Logic.{⊎-elim}
 use Prim.Native.Nat.{ℕ, zero, suc, _<_}
 use native.Mathlib.Omega.{arith}
-use lib.Dec.{T}
 use lib.ListN.{getD}
-use Rattle.std.proofs.shelf.Tests.{cases-eq}
+use Rattle.std.proofs.shelf.Tests.{cases-eq, and-parts}
 use Rattle.guards.specs.Meaning.{on-in}
 use Rattle.wordbook.specs.Words.{switch-words, Switch-words-rule}
-use Rattle.wordbook.proofs.Table.{both, at}
+
+-- f passes at each number below n
+abbrev below : ℕ → (ℕ → Bool) → Bool
+below zero f = true
+below (suc n) f = f n && below n f
+
+below-at : (n : ℕ) (f : ℕ → Bool) → below n f ≡ true → (k : ℕ) → k < n → f k ≡ true
+below-at zero f t k h = absurd (omega arith)
+below-at (suc n) f t k h =
+    let p = and-parts (f n) (below n f) t in
+    ⊎-elim (λ e. ap f e ∙ p .0) (λ ne. below-at n f (p .1) k (omega arith)) (cases-eq k n)
 
 abbrev same : Bool → Bool → Bool
 same true b = b
 same false b = not b
 
-same-is : (a b : Bool) → T (same a b) → a ≡ b
-same-is true true t = refl
-same-is true false t = absurd t
-same-is false true t = absurd t
+same-is : (a b : Bool) → same a b ≡ true → a ≡ b
+same-is true b t = sym t
 same-is false false t = refl
+same-is false true t = t
 
-both-parts : (a b : Bool) → T (both a b) → T a × T b
-both-parts true b t = (tt, t)
-both-parts false b t = absurd t
-
--- in each mode below n, bit m of the word w is bit s of m
-abbrev agree : ℕ → ℕ → ℕ → Bool
-agree zero s w = true
-agree (suc n) s w = both (same (on-in n w) (on-in s n)) (agree n s w)
-
-agree-at : (n s w : ℕ) → T (agree n s w) → (m : ℕ) → m < n → on-in m w ≡ on-in s m
-agree-at zero s w t m h = absurd (omega arith)
-agree-at (suc n) s w t m h =
-    let p = both-parts (same (on-in n w) (on-in s n)) (agree n s w) t in
-    ⊎-elim (λ e. subst (λ (k : ℕ). on-in k w ≡ on-in s k) (sym e) (same-is (on-in n w) (on-in s n) (p .0)))
-    (λ ne. agree-at n s w (p .1) m (omega arith)) (cases-eq m n)
+abbrev right : ℕ → ℕ → Bool
+right s m = same (on-in m (getD switch-words s 0)) (on-in s m)
 
 pub switch-rule : Switch-words-rule
-switch-rule s h m l = agree-at 64 s (getD switch-words s 0) (at (agree 64) switch-words tt s h) m l
+switch-rule s h m l = same-is (on-in m (getD switch-words s 0)) (on-in s m) (below-at 64 (right s) (below-at 6 (λ k. below 64 (right k)) refl s h) m l)

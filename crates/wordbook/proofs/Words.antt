@@ -1,17 +1,16 @@
 -- Laws of a book of words. Assumes nothing.
-use mathlib.Core.Path.{_≡_, refl, sym, ap, _∙_}
+use mathlib.Core.Path.{_≡_, sym, ap, _∙_}
 use mathlib.Core.Bool.{Bool, true, false, not, _&&_, _||_}
 use mathlib.Core.List.{List, [], _∷_, _++_, map}
 use Prim.Native.Nat.{ℕ, _+_, _-_, _^_, _<_, _≤_}
 use native.Mathlib.Omega.{arith}
 use native.Mathlib.Nat.{pow-le-pow-right}
-use lib.Bits.{bitAnd, bitOr}
 use lib.ListN.{length, take, set, getD, replicate}
 use Rattle.std.proofs.shelf.Lists.{length-take-le, length-map, length-replicate, map-append, take-more-set, getD-map, getD-take}
 use Rattle.std.proofs.shelf.Tests.{ltb-true}
 use Rattle.guards.specs.declared.entry.Entry.{Entry}
 use Rattle.guards.specs.declared.entry.Entry.the-variants.{Switch, Not, Both, Either}
-use Rattle.guards.specs.Meaning.{Meaning, Sound, free, says, on-in, row, modes, with-guard, fresh}
+use Rattle.guards.specs.Meaning.{Meaning, Sound, free, says, on-in, modes, with-guard, fresh}
 use Rattle.guards.specs.Calls.{named, entry-says}
 use Rattle.guards.proofs.Entries.{both-named}
 use Rattle.guards.proofs.Bits.{on-and, on-or, on-not, on-none, seen-free}

@@ -29,7 +29,7 @@ switch-words = 0xAAAA_AAAA_AAAA_AAAA ∷ 0xCCCC_CCCC_CCCC_CCCC ∷ 0xF0F0_F0F0_F
 abbrev pub Switch-words-rule : Type 0
 Switch-words-rule = (s : ℕ) → s < 6 → (m : ℕ) → m < 64 → on-in m (getD switch-words s 0) ≡ on-in s m
 
--- the word of an entry, by the words of the guards
+-- for a private function: the word of an entry, by the words of the guards
 abbrev pub entry-word : List ℕ → Entry → ℕ
 entry-word ws (Switch s) = getD switch-words s 0
 entry-word ws (Not g) = (2 ^ 64 - 1) - getD ws g 0
