@@ -1,0 +1,2 @@
+pub mod Risings
+pub mod Places
