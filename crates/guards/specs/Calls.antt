@@ -45,8 +45,8 @@ admitted k n e = provided (named k n e) (missing e) (provided (ltb n 64) GuardsF
 abbrev pub answer : Meaning → Entry → Result ℕ Refusal
 answer b e = admitted (b .switches) (length (b .guards)) e
 
--- the new meaning where the call is accepted, the old one where it is refused
-abbrev pub settle : {A : Type 0} → Result A Refusal → Meaning → Meaning → Meaning
+-- what stands after a call: the new where it is accepted, the old where it is refused
+abbrev pub settle : {A B : Type 0} → Result A Refusal → B → B → B
 settle (Ok a) new old = new
 settle (Err f) new old = old
 
