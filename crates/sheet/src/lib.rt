@@ -9,6 +9,7 @@ pub use striking::check_counts;
 pub mod call;
 mod drafting;
 mod lines;
+mod reading;
 mod striking;
 
 #[derive(Drop)]

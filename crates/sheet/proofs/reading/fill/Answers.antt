@@ -1,0 +1,24 @@
+use mathlib.Core.Path.{_≡_, ap, _∙_}
+use native.Mathlib.Omega.{arith}
+use lib.ListN.{take}
+use Rattle.sets.specs.Word.{member}
+use Rattle.sheet.specs.Signatures.{counts, largest}
+use Rattle.sheet.proofs.Fills.{filled-more}
+use Rattle.sheet.proofs.reading.fill.Needs as need
+
+pub loop-k-again : need.loop-k-again
+loop-k-again g c =
+    let t = c .args .table .now in
+    filled-more (g .B·GuardBook .meaning (c .args .book .now)) (c .args .mode) (t .equations) (t .variables) (c .args .occurrences .now) (c .loop-k .k) (c .loop-k .table) (c .weigh .last .table)
+    (omega arith) (c .loop-k .inv) (c .weigh .ensures .rows) (c .weigh .ensures .columns) (c .weigh .ensures .places)
+
+pub returns : need.returns
+returns g c =
+    let t = c .args .table .now in
+    let e : c .loop-k .k ≡ c .args .n = omega arith in
+    record {
+      rows = c .loop-k .inv .rows;
+      columns = c .loop-k .inv .columns;
+      places = λ i j. c .loop-k .inv .places i j ∙
+          ap (λ n. largest (counts (g .B·GuardBook .meaning (c .args .book .now)) (c .args .mode) (member (t .equations)) (member (t .variables))) (take n (c .args .occurrences .now)) i j) e;
+    }
