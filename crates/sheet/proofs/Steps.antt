@@ -19,7 +19,7 @@ use Rattle.faults.specs.declared.Fault.the-variants.{TooLarge, NothingToStrike}
 use Rattle.faults.specs.Refusals.{refusal, bare}
 use Rattle.guards.specs.Calls.{settle}
 use Rattle.guards.specs.Meaning.{Meaning}
-use Rattle.sheet.specs.declared.lines.Occurrence.{Occurrence}
+use Rattle.reading.specs.declared.occurrence.Occurrence.{Occurrence}
 use Rattle.sheet.specs.declared.lines.Lines.{Lines}
 use Rattle.sheet.specs.declared.call.Change.{Change}
 use Rattle.sheet.specs.declared.call.Change.the-variants.{Equation, Variable, Place, Strike}

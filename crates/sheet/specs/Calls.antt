@@ -14,7 +14,7 @@ use Rattle.faults.specs.Refusals.{Refusal, told}
 use Rattle.guards.specs.declared.entry.Entry.{Entry}
 use Rattle.guards.specs.Meaning.{Meaning, with-guard}
 use Rattle.guards.specs.Calls.{provided, answer, entry-says, settle}
-use Rattle.sheet.specs.declared.lines.Occurrence.{Occurrence}
+use Rattle.reading.specs.declared.occurrence.Occurrence.{Occurrence}
 use Rattle.sheet.specs.declared.call.Change.{Change}
 use Rattle.sheet.specs.declared.call.Change.the-variants.{Enter, Equation, Variable, Place, Strike, Assume}
 use Rattle.sheet.specs.Ledger.{Ledger}

@@ -3,7 +3,7 @@ use mathlib.Core.List.{List}
 use Prim.Native.Nat.{ℕ}
 use lib.ListN.{take}
 use Rattle.guards.specs.Meaning.{Meaning}
-use Rattle.sheet.specs.declared.lines.Occurrence.{Occurrence}
+use Rattle.reading.specs.declared.occurrence.Occurrence.{Occurrence}
 use Rattle.sheet.specs.declared.lines.Lines.{Lines}
 use Rattle.sheet.specs.declared.Draft.{Draft}
 use Rattle.sheet.specs.declared.Issued.{Issued}

@@ -9,11 +9,11 @@ use crate::Draft;
 use crate::Issued;
 use crate::check_counts;
 use crate::lines::Lines;
-use crate::lines::Occurrence;
 use crate::striking::keep_others;
 use faults::Fault;
 use guards::Entry;
 use guards::GuardBook;
+use reading::Occurrence;
 
 impl<B: GuardBook> Draft<B> {
     pub fn new(book: B, equations: usize, variables: usize) -> Self
@@ -24,7 +24,7 @@ impl<B: GuardBook> Draft<B> {
         } else {
             Lines::new(0, 0)
         };
-        Draft { book, lines }
+        Self { book, lines }
     }
 
     // The new guard's number, or why it is not entered.

@@ -3,7 +3,6 @@ pub use call::Call;
 pub use call::Change;
 use guards::GuardBook;
 use lines::Lines;
-pub use lines::Occurrence;
 pub use striking::check_counts;
 
 pub mod call;

@@ -2,14 +2,7 @@
 ghost use mathlib.Core.Path.{_≡_};
 ghost use Prim.Native.Nat.{_≤_};
 ghost use lib.ListN.{length};
-
-#[derive(Clone, Copy, Debug)]
-pub struct Occurrence {
-    pub equation: u8,
-    pub variable: u8,
-    pub order: u8,
-    pub guard: u8,
-}
+use reading::Occurrence;
 
 #[derive(Drop)]
 pub struct Lines {

@@ -8,8 +8,8 @@ ghost use Rattle.faults.specs.declared.Fault.the-variants.{TooLarge};
 ghost use Rattle.faults.specs.Refusals.{bare};
 ghost use Rattle.sheet.specs.Calls.{named, other, too-many};
 use crate::lines::Lines;
-use crate::lines::Occurrence;
 use faults::Fault;
+use reading::Occurrence;
 
 // 0, or the number of the refusal where a sheet cannot have so many equations or variables.
 pub fn check_counts(equations: usize, variables: usize) -> u8
@@ -47,15 +47,11 @@ impl Lines {
     }
 }
 
-impl Occurrence {
-    // Whether a strike that names these three is about this occurrence.
-    fn is_named(self, equation: usize, variable: usize, guard: usize) -> bool
-        ensures { λ r. ⌜ r ≡ named equation variable guard self ⌝ }
-    {
-        self.equation as usize == equation
-            && self.variable as usize == variable
-            && self.guard as usize == guard
-    }
+// Whether a strike that names these three is about this occurrence.
+fn is_named(o: Occurrence, equation: usize, variable: usize, guard: usize) -> bool
+    ensures { λ r. ⌜ r ≡ named equation variable guard o ⌝ }
+{
+    o.equation as usize == equation && o.variable as usize == variable && o.guard as usize == guard
 }
 
 // Keeps the occurrences among the first n that are none of those named, in their order, and says how many they are.
@@ -74,7 +70,7 @@ pub(crate) fn keep_others(
     let mut k = 0;
     for i in 0..n {
         let o = all[i];
-        if !o.is_named(equation, variable, guard) {
+        if !is_named(o, equation, variable, guard) {
             all[k] = o;
             k += 1;
         }

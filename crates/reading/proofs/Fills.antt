@@ -1,4 +1,4 @@
--- Filling a table from the lines of a sheet. Assumes nothing.
+-- Filling a table from lists of guards and occurrences. Assumes nothing.
 use mathlib.Core.Path.{_≡_, refl, sym, ap, ap₂, _∙_, fun-ext}
 use mathlib.Core.Bool.{Bool, true, false, cond, _&&_, _||_}
 use mathlib.Core.Logic.{⊎-elim, _≢_}
@@ -12,31 +12,34 @@ use Rattle.std.specs.declared.option.Option.the-variants.{None}
 use Rattle.std.specs.declared.result.Result.the-variants.{Ok, Err}
 use Rattle.std.proofs.shelf.Tests.{cases-eq, cases-lt, lt-ltb, le-ltb, eq-eqb, ne-eqb}
 use Rattle.std.proofs.shelf.Sums.{folded-more}
-use Rattle.std.proofs.shelf.Lists.{length-take-le, getD-take, getD-past}
+use Rattle.std.proofs.shelf.Lists.{getD-past}
 use Rattle.faults.specs.declared.Fault.{Fault}
 use Rattle.faults.specs.Refusals.{refusal}
-use Rattle.guards.specs.Meaning.{Meaning, says, modes}
+use Rattle.guards.specs.Meaning.{Meaning, Sound, says, modes}
 use Rattle.guards.specs.Calls.{asked}
 use Rattle.sets.specs.Word.{member, joins}
+use Rattle.sets.proofs.Members.{member-zero}
 use Rattle.sigma.specs.Signature.{Signature, rising}
 use Rattle.sigma.specs.Tables.{place-in, signature-of}
 use Rattle.sigma.specs.declared.Table.{Table}
 use Rattle.sigma.proofs.Risings.{rising-same, rising-past}
-use Rattle.sheet.specs.declared.lines.Occurrence.{Occurrence}
-use Rattle.sheet.specs.Ledger.{Ledger}
-use Rattle.sheet.specs.Signatures.{active, counts, joined, largest, allowed, signature, signed}
+use Rattle.reading.specs.declared.occurrence.Occurrence.{Occurrence}
+use Rattle.reading.specs.Signatures.{active, active-below-64, counts, joined, largest, signature-by}
 
--- a question that is declined in a mode of the book is about no guard of it
-pub none-says : (b : Meaning) (g m : ℕ) (f : Fault) → m < modes b → Err (refusal f) ≡ asked b g m → says b g m ≡ false
-none-says b g m f l e =
+-- a question that is declined is about no guard or no mode of the book
+pub none-says : (most : ℕ) (b : Meaning) (g m : ℕ) (f : Fault) → Sound most b → Err (refusal f) ≡ asked b g m → says b g m ≡ false
+none-says most b g m f s e =
     ⊎-elim
-    (λ (i : g < length (b .guards)). absurd (let z : asked b g m ≡ Ok (says b g m) = rw (lt-ltb g (length (b .guards)) i, lt-ltb m (modes b) l) refl in let w : _≡_ {A = ℕ} 0 1 = cc in omega arith))
+    (λ (i : g < length (b .guards)). ⊎-elim
+    (λ (l : m < modes b). absurd (let z : asked b g m ≡ Ok (says b g m) = rw (lt-ltb g (length (b .guards)) i, lt-ltb m (modes b) l) refl in let w : _≡_ {A = ℕ} 0 1 = cc in omega arith))
+    (λ (l : modes b ≤ m). getD-past (getD (b .guards) g []) m false (omega (arith, s .rows g i)))
+    (cases-lt m (modes b)))
     (λ (i : length (b .guards) ≤ g). ap (λ r. getD r m false) (getD-past (b .guards) g [] i))
     (cases-lt g (length (b .guards)))
 
--- a set of those below n that pass f
+-- a set of those below n, and below 64, that pass f
 abbrev pub Among : (ℕ → Bool) → ℕ → ℕ → Type 0
-Among f n w = (k : ℕ) → member w k ≡ (ltb k n && f k)
+Among f n w = (k : ℕ) → member w k ≡ (ltb k 64 && (ltb k n && f k))
 
 below-more : (f : ℕ → Bool) (n k : ℕ) → k ≢ n → (ltb k n && f k) ≡ (ltb k (n + 1) && f k)
 below-more f n k e =
@@ -46,24 +49,31 @@ below-more f n k e =
     (cases-lt k n)
 
 module _ (f : ℕ → Bool) (n w : ℕ) (was : Among f n w) where
+  others : (k : ℕ) → k ≢ n → member w k ≡ (ltb k 64 && (ltb k (n + 1) && f k))
+  others k e = was k ∙ ap (λ b. ltb k 64 && b) (below-more f n k e)
+
   -- n passes, and is put in
-  pub among-more : (x : ℕ) → n < 64 → f n ≡ true → ((k : ℕ) → member x k ≡ (joins n k || member w k)) → Among f (n + 1) x
-  among-more x l passes put k =
+  pub among-more : (x : ℕ) → f n ≡ true → ((k : ℕ) → member x k ≡ (joins n k || member w k)) → Among f (n + 1) x
+  among-more x passes put k =
       ⊎-elim
-      (λ (e : k ≡ n). rw (put k, lt-ltb n 64 l, eq-eqb n k (sym e), lt-ltb k (n + 1) (omega arith)) (sym (ap f e ∙ passes)))
-      (λ (e : k ≢ n). rw (put k, ne-eqb n k (λ z. e (sym z)), and-none (ltb n 64)) (was k ∙ below-more f n k e))
+      (λ (e : k ≡ n). rw (e, put n, was n, eq-eqb n n refl, lt-ltb n (n + 1) (omega arith), le-ltb n n (omega arith), passes) (or-none (ltb n 64)))
+      (λ (e : k ≢ n). rw (put k, ne-eqb n k (λ z. e (sym z)), and-none (ltb n 64)) (others k e))
       (cases-eq k n)
     where
       and-none : (b : Bool) → (b && false) ≡ false
       and-none true = refl
       and-none false = refl
 
+      or-none : (b : Bool) → ((b && true) || (b && false)) ≡ (b && true)
+      or-none true = refl
+      or-none false = refl
+
   -- n does not pass
   pub among-same : f n ≡ false → Among f (n + 1) w
   among-same fails k =
       ⊎-elim
-      (λ (e : k ≡ n). was k ∙ rw (le-ltb k n (omega arith), lt-ltb k (n + 1) (omega arith)) (sym (ap f e ∙ fails)))
-      (λ (e : k ≢ n). was k ∙ below-more f n k e)
+      (λ (e : k ≡ n). rw (e, was n, le-ltb n n (omega arith), lt-ltb n (n + 1) (omega arith), fails) refl)
+      (λ (e : k ≢ n). others k e)
       (cases-eq k n)
 
 -- the first n occurrences are in the table, which has the equations es and the variables vs
@@ -89,13 +99,13 @@ filled-more b m es vs os n t x l f re ce p = record {
       sym (folded-more (joined (counts b m (member es) (member vs)) i j) None os n no-occurrence l);
 }
 
--- activity by the first n guards of a list
-pub active-taken : (b : Meaning) (m : ℕ) (xs : List ℕ) (n k : ℕ) → n ≤ length xs → (ltb k n && says b (getD xs k 0) m) ≡ active b m (take n xs) k
-active-taken b m xs n k l =
+-- where there are at most 64, the bound of sets says nothing
+below-64 : (b : Meaning) (m : ℕ) (xs : List ℕ) (k : ℕ) → length xs ≤ 64 → active-below-64 b m xs k ≡ active b m xs k
+below-64 b m xs k l =
     ⊎-elim
-    (λ (h : k < n). rw (length-take-le n xs l, lt-ltb k n h, getD-take n xs k 0 h) refl)
-    (λ (h : n ≤ k). rw (length-take-le n xs l, le-ltb k n h) refl)
-    (cases-lt k n)
+    (λ (h : k < 64). rw (lt-ltb k 64 h) refl)
+    (λ (h : 64 ≤ k). rw (le-ltb k 64 h, le-ltb k (length xs) (omega arith)) refl)
+    (cases-lt k 64)
 
 -- the members of a set of what is active
 listed : (b : Meaning) (m w : ℕ) (xs : List ℕ) → length xs ≤ 64 → ((k : ℕ) → member w k ≡ active b m xs k) → rising (member w) 64 ≡ rising (active b m xs) (length xs)
@@ -104,17 +114,20 @@ listed b m w xs l e = rising-same (member w) (active b m xs) 64 (λ k _. e k) �
 abbrev of-parts : List ℕ → List ℕ → (ℕ → ℕ → Option ℕ) → Signature
 of-parts es vs p = record { equations = es; variables = vs; place = p }
 
-pub signature-is : (l : Ledger) (m : ℕ) (t : Table) → length (l .equations) ≤ 64 → length (l .variables) ≤ 64 →
-    ((k : ℕ) → member (t .equations) k ≡ active (l .book) m (l .equations) k) → ((k : ℕ) → member (t .variables) k ≡ active (l .book) m (l .variables) k) →
-    ((i j : ℕ) → place-in t i j ≡ largest (counts (l .book) m (member (t .equations)) (member (t .variables))) (l .occurrences) i j) →
-    signature-of t ≡ signature l m
-signature-is l m t le lv e v p =
-    let me : member (t .equations) ≡ active (l .book) m (l .equations) = fun-ext e in
-    let mv : member (t .variables) ≡ active (l .book) m (l .variables) = fun-ext v in
-    ap₂ (λ es vs. of-parts es vs (place-in t)) (listed (l .book) m (t .equations) (l .equations) le e) (listed (l .book) m (t .variables) (l .variables) lv v) ∙
-    ap (λ o. of-parts (signature l m .equations) (signature l m .variables) o)
-    (fun-ext (λ i. fun-ext (λ j. p i j)) ∙ ap₂ (λ a c. largest (counts (l .book) m a c) (l .occurrences)) me mv)
+pub signature-is : (b : Meaning) (es vs : List ℕ) (os : List Occurrence) (m x y : ℕ) (t : Table) → length es ≤ 64 → length vs ≤ 64 → t .equations ≡ x → t .variables ≡ y →
+    ((k : ℕ) → member x k ≡ active-below-64 b m es k) → ((k : ℕ) → member y k ≡ active-below-64 b m vs k) →
+    ((i j : ℕ) → place-in t i j ≡ largest (counts b m (member x) (member y)) os i j) →
+    signature-of t ≡ signature-by b es vs os m
+signature-is b es vs os m x y t le lv te tv ex vy p =
+    let e : (k : ℕ) → member x k ≡ active b m es k = λ k. ex k ∙ below-64 b m es k le in
+    let v : (k : ℕ) → member y k ≡ active b m vs k = λ k. vy k ∙ below-64 b m vs k lv in
+    ap₂ (λ us ws. of-parts us ws (place-in t)) (ap (λ w. rising (member w) 64) te ∙ listed b m x es le e) (ap (λ w. rising (member w) 64) tv ∙ listed b m y vs lv v) ∙
+    ap (λ o. of-parts (signature-by b es vs os m .equations) (signature-by b es vs os m .variables) o)
+    (fun-ext (λ i. fun-ext (λ j. p i j)) ∙ ap₂ (λ a c. largest (counts b m a c) os) (fun-ext e) (fun-ext v))
 
--- an allowed mode of the book
-pub signed-is : (l : Ledger) (m : ℕ) (s : Signature) → m < modes (l .book) → allowed l m ≡ true → s ≡ signature l m → Ok s ≡ signed l m
-signed-is l m s h a e = ap Ok e ∙ sym (rw (lt-ltb m (modes (l .book)) h, a) refl)
+pub among-none : (f : ℕ → Bool) → Among f 0 0
+among-none f k = rw (member-zero k, le-ltb k 0 (omega arith)) (sym (and-none (ltb k 64)))
+  where
+    and-none : (b : Bool) → (b && false) ≡ false
+    and-none true = refl
+    and-none false = refl

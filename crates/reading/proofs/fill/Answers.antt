@@ -1,10 +1,11 @@
 use mathlib.Core.Path.{_≡_, ap, _∙_}
 use native.Mathlib.Omega.{arith}
-use lib.ListN.{take}
+use lib.ListN.{length, take}
+use Rattle.std.proofs.shelf.Lists.{take-all}
 use Rattle.sets.specs.Word.{member}
-use Rattle.sheet.specs.Signatures.{counts, largest}
-use Rattle.sheet.proofs.Fills.{filled-more}
-use Rattle.sheet.proofs.reading.fill.Needs as need
+use Rattle.reading.specs.Signatures.{counts, largest}
+use Rattle.reading.proofs.Fills.{filled-more}
+use Rattle.reading.proofs.fill.Needs as need
 
 pub loop-k-again : need.loop-k-again
 loop-k-again g c =
@@ -15,10 +16,10 @@ loop-k-again g c =
 pub returns : need.returns
 returns g c =
     let t = c .args .table .now in
-    let e : c .loop-k .k ≡ c .args .n = omega arith in
+    let os = c .args .occurrences .now in
     record {
       rows = c .loop-k .inv .rows;
       columns = c .loop-k .inv .columns;
       places = λ i j. c .loop-k .inv .places i j ∙
-          ap (λ n. largest (counts (g .B·GuardBook .meaning (c .args .book .now)) (c .args .mode) (member (t .equations)) (member (t .variables))) (take n (c .args .occurrences .now)) i j) e;
+          ap (λ xs. largest (counts (g .B·GuardBook .meaning (c .args .book .now)) (c .args .mode) (member (t .equations)) (member (t .variables))) xs i j) (take-all (c .loop-k .k) os (omega arith));
     }
