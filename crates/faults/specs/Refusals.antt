@@ -1,8 +1,10 @@
 -- What each refusal says: its number, the layer that declines, and its details in order. Assumes nothing.
-use mathlib.Core.Bool.{Bool, cond}
+use mathlib.Core.Bool.{Bool, cond, _||_}
 use mathlib.Core.List.{List, [], _∷_}
 use mathlib.Core.Path.{_≡_}
 use lib.Chars.{codes}
+use lib.Dec.{eqb}
+use lib.ListN.{getD}
 use Prim.Native.Nat.{ℕ}
 use Rattle.std.specs.declared.result.Result.{Result}
 use Rattle.std.specs.declared.result.Result.the-variants.{Ok, Err}
@@ -38,6 +40,10 @@ refusal NoSuchMode = from-layer Book 14 []
 refusal ModeNotAllowed = from-layer Sheet 15 []
 refusal (Uneven es vs) = from-layer Sheet 16 (es ∷ vs ∷ [])
 refusal (Singular es vs) = from-layer Sheet 17 (es ∷ vs ∷ [])
+
+-- the record that a refusal names, 0 where it names none
+abbrev pub record-named : Refusal → ℕ
+record-named r = cond (eqb (r .number) 3 || eqb (r .number) 4) (getD (r .values) 0 0) 0
 
 -- an answer with its fault told by what it says
 abbrev pub told : {A : Type 0} → Result A Fault → Result A Refusal

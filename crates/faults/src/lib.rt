@@ -1,6 +1,6 @@
 // The seventeen refusals of the analyser, with their details.
 ghost use mathlib.Core.Path.{_≡_};
-ghost use Rattle.faults.specs.Refusals.{refusal, layer-name, Told-apart};
+ghost use Rattle.faults.specs.Refusals.{refusal, layer-name, Told-apart, record-named};
 ghost use Rattle.std.specs.declared.option.Option.the-variants.{Some};
 use std::fmt;
 
@@ -100,6 +100,16 @@ impl Fault {
             6 => Layer::Check,
             7..=9 | 14 => Layer::Book,
             _ => Layer::Sheet,
+        }
+    }
+
+    // The record of the file that the refusal names, 0 where it names none.
+    pub fn record(&self) -> usize
+        ensures { λ r. ⌜ r ≡ record-named (refusal (now (self .entry))) ⌝ }
+    {
+        match self {
+            Fault::BadLink { record } | Fault::BadRecord { record } => *record,
+            _ => 0,
         }
     }
 }

@@ -1,0 +1,5 @@
+pub mod Twice
+pub mod Walks
+pub mod Judges
+pub mod Tables
+pub mod Steps

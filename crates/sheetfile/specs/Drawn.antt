@@ -1,0 +1,54 @@
+-- What drawing a record answers, and the ledger after it. Assumes nothing.
+use mathlib.Core.List.{List}
+use mathlib.Core.Path.{_≡_}
+use Prim.Native.Nat.{ℕ}
+use Rattle.std.specs.declared.option.Option.{Option}
+use Rattle.std.specs.declared.option.Option.the-variants.{Some, None}
+use Rattle.std.specs.declared.result.Result.{Result}
+use Rattle.std.specs.declared.result.Result.the-variants.{Ok, Err}
+use Rattle.faults.specs.declared.Fault.{Fault}
+use Rattle.faults.specs.declared.Fault.the-variants.{BadRecord}
+use Rattle.faults.specs.Refusals.{Refusal, refusal, record-named}
+use Rattle.sheet.specs.declared.call.Change.{Change}
+use Rattle.sheet.specs.Ledger.{Ledger}
+use Rattle.sheet.specs.Calls.{reply, step}
+use Rattle.sheetfile.specs.declared.fault.FileFault.{FileFault}
+use Rattle.sheetfile.specs.Format.{call-of}
+
+-- what a refusal in a file says: the refusal, and the record where it was met
+pub record Meeting : Type 0 where
+  pub said : Refusal
+  pub at : ℕ
+
+abbrev pub met-at : ℕ → Refusal → Meeting
+met-at n f = record { said = f; at = n }
+
+abbrev pub meeting : FileFault → Meeting
+meeting f = met-at (f .«record») (refusal (f .fault))
+
+-- a fault with the record that it names itself
+abbrev pub named-in : Fault → Meeting
+named-in f = met-at (record-named (refusal f)) (refusal f)
+
+abbrev pub told-met : {A : Type 0} → Result A FileFault → Result A Meeting
+told-met (Ok a) = Ok a
+told-met (Err f) = Err (meeting f)
+
+-- an answer of the sheet, and the record where a refusal was met
+abbrev pub located : {A : Type 0} → ℕ → Result A Refusal → Result (Unit {0}) Meeting
+located n (Ok a) = Ok tt
+located n (Err f) = Err (met-at n f)
+
+-- a record that asks for no call is refused as opening would, and draws nothing
+abbrev pub drawn : Ledger → ℕ → Option Change → Result (Unit {0}) Meeting
+drawn l n None = Err (named-in (BadRecord n))
+drawn l n (Some c) = located n (reply l c)
+
+abbrev pub drawn-ledger : Ledger → Option Change → Ledger
+drawn-ledger l None = l
+drawn-ledger l (Some c) = step l c
+
+-- drawing record n, of the bytes p, on a sheet whose ledger is l answers r and leaves the ledger x
+pub record Draws (l : Ledger) (n : ℕ) (p : List ℕ) (r : Result (Unit {0}) FileFault) (x : Ledger) : Type 0 where
+  pub given : told-met r ≡ drawn l n (call-of p)
+  pub left : x ≡ drawn-ledger l (call-of p)
