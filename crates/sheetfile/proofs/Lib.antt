@@ -3,3 +3,4 @@ pub mod Walks
 pub mod Judges
 pub mod Tables
 pub mod Steps
+pub mod Draws

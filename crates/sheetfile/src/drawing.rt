@@ -2,7 +2,8 @@
 ghost use mathlib.Core.Path.{_≡_};
 ghost use Rattle.faults.specs.Refusals.{told};
 ghost use Rattle.sheet.specs.Ledger.{of-draft};
-ghost use Rattle.sheetfile.specs.Drawn.{named-in, meeting, told-met, located, Draws};
+ghost use Rattle.sheetfile.specs.Drawn.{named-in, meeting, told-met, located, Draws, DrawsAll};
+use crate::SheetFile;
 use crate::fault::FileFault;
 use crate::is_sound;
 use faults::Fault;
@@ -54,4 +55,18 @@ pub fn draw<B: GuardBook>(draft: &mut Draft<B>, record: usize, part: &[u8]) -> R
         'A' => note(draft.assume(a), record),
         _ => Err(FileFault::from(Fault::BadRecord { record })),
     }
+}
+
+// Draws every record that the reader has still to hand out, up to the first that is refused.
+pub fn draw_all<B: GuardBook>(mut file: SheetFile, draft: &mut Draft<B>) -> Result<(), FileFault>
+    ensures { λ r. ⌜ DrawsAll (now (file .entry .bytes)) (file .entry .place) (of-draft meaning (now (draft .entry))) r (of-draft meaning (now (draft .exit))) ⌝ }
+{
+    for _i in 0..file.records() {
+        let (n, part) = file.step();
+        if n == 0 {
+            return Ok(());
+        }
+        draw(draft, n, part)?;
+    }
+    Ok(())
 }

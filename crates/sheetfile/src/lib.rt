@@ -14,6 +14,7 @@ ghost use Rattle.sheetfile.specs.Stepping.{Hands};
 ghost use Rattle.sheetfile.specs.Letters.{Table, Hoist-opens};
 pub use drawing::FileFaultFrom;
 pub use drawing::draw;
+pub use drawing::draw_all;
 pub use fault::FileFault;
 pub use fault::FileFaultDebug;
 use faults::Fault;
