@@ -18,6 +18,9 @@ use std::io::Write;
 use wordbook::WordBook;
 use wordbook::WordGuardBook;
 
+#[cfg(test)]
+mod tests;
+
 // A new sheet over a book, with every record of the file drawn.
 fn issued<B: GuardBook + Drop>(file: SheetFile, book: B) -> Result<Issued<B>, FileFault> {
     let mut draft = Draft::new(book, file.equations(), file.variables());
