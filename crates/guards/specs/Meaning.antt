@@ -3,9 +3,10 @@ use mathlib.Core.Bool.{Bool, true, false, cond}
 use mathlib.Core.List.{List, [], _∷_, _++_, map}
 use mathlib.Core.Path.{_≡_}
 use Prim.Native.Nat.{ℕ, _+_, _*_, _/_, _%_, _^_, _<_, _≤_}
-use lib.Dec.{eqb, ltb}
+use lib.Dec.{ltb}
 use lib.ListN.{length, getD, replicate}
 use Rattle.std.specs.Iters.{counting}
+use Rattle.sets.specs.Word.{bit}
 
 pub data Hold : Type 0 where
   free : Hold
@@ -20,7 +21,7 @@ pub record Meaning : Type 0 where
 
 -- switch s is on in the mode m: bit s of m, counted from the lowest, is 1
 abbrev pub on-in : ℕ → ℕ → Bool
-on-in s m = eqb (m / 2 ^ s % 2) 1
+on-in s m = bit s m
 
 -- the lowest bit of a mode, under the hold of switch 0
 abbrev pub lowest : Hold → ℕ → ℕ

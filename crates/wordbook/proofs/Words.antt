@@ -13,7 +13,8 @@ use Rattle.guards.specs.declared.entry.Entry.the-variants.{Switch, Not, Both, E
 use Rattle.guards.specs.Meaning.{Meaning, Sound, free, says, on-in, modes, with-guard, fresh}
 use Rattle.guards.specs.Calls.{named, entry-says}
 use Rattle.guards.proofs.Entries.{both-named}
-use Rattle.guards.proofs.Bits.{on-and, on-or, on-not, on-none, seen-free}
+use Rattle.sets.proofs.Bits.{bit-and, bit-or, bit-not, bit-none}
+use Rattle.guards.proofs.Bits.{seen-free}
 use Rattle.guards.proofs.Rows.{row-at, row-same, row-length}
 use Rattle.wordbook.specs.declared.WordBook.{WordBook}
 use Rattle.wordbook.specs.Words.{words-mean, of-words, word-row, entry-word}
@@ -23,7 +24,7 @@ pub below-64 : (k m : ℕ) → k ≤ 6 → m < 2 ^ k → m < 64
 below-64 k m h l = let p : 2 ^ k ≤ 2 ^ 6 = pow-le-pow-right {n = 2} (omega arith) h in omega arith
 
 all-ones : (k m : ℕ) → k ≤ 6 → m < 2 ^ k → on-in m (2 ^ 64 - 1) ≡ true
-all-ones k m h l = on-not 64 m 0 (below-64 k m h l) (omega arith) ∙ ap not (on-none m)
+all-ones k m h l = bit-not 64 m 0 (below-64 k m h l) (omega arith) ∙ ap not (bit-none m)
 
 abbrev of-guards : ℕ → List (List Bool) → Meaning
 of-guards k gs = record { switches = k; holds = replicate k free; guards = gs }
@@ -52,14 +53,14 @@ module _ (x : WordBook) where
       switch-rule s (omega arith) m (below-64 (x .switches) m (x .few) b) ∙ ap (on-in s) (sym (seen-free (x .switches) m))
   entry-bit (Not g) m p f b =
       let l = ltb-true g (x .last + 1) p in
-      on-not 64 m (getD (x .words) g 0) (below-64 (x .switches) m (x .few) b) (f g) ∙ ap not (sym (word-says g m l b))
+      bit-not 64 m (getD (x .words) g 0) (below-64 (x .switches) m (x .few) b) (f g) ∙ ap not (sym (word-says g m l b))
   entry-bit (Both g h) m p f b =
       let l = both-named g h (x .last + 1) p in
-      on-and m (getD (x .words) g 0) (getD (x .words) h 0) ∙ ap (λ y. y && on-in m (getD (x .words) h 0)) (sym (word-says g m (l .0) b)) ∙
+      bit-and m (getD (x .words) g 0) (getD (x .words) h 0) ∙ ap (λ y. y && on-in m (getD (x .words) h 0)) (sym (word-says g m (l .0) b)) ∙
       ap (λ y. says (of-words x) g m && y) (sym (word-says h m (l .1) b))
   entry-bit (Either g h) m p f b =
       let l = both-named g h (x .last + 1) p in
-      on-or m (getD (x .words) g 0) (getD (x .words) h 0) ∙ ap (λ y. y || on-in m (getD (x .words) h 0)) (sym (word-says g m (l .0) b)) ∙
+      bit-or m (getD (x .words) g 0) (getD (x .words) h 0) ∙ ap (λ y. y || on-in m (getD (x .words) h 0)) (sym (word-says g m (l .0) b)) ∙
       ap (λ y. says (of-words x) g m || y) (sym (word-says h m (l .1) b))
 
   -- one word more
