@@ -80,7 +80,7 @@ fn print_modes<W: Write, B: GuardBook>(out: &mut W, sheet: &Issued<B>) -> io::Re
         if let Ok(table) = sheet.signature(mode) {
             writeln!(
                 out,
-                "mode {mode}: {} equations, {} variables",
+                "mode {mode}: equations {}, variables {}",
                 table.equations.count_ones(),
                 table.variables.count_ones()
             )?;

@@ -1,11 +1,11 @@
 -- Filling a table from lists of guards and occurrences. Assumes nothing.
 use mathlib.Core.Path.{_≡_, refl, sym, ap, ap₂, _∙_, fun-ext}
-use mathlib.Core.Bool.{Bool, true, false, cond, _&&_, _||_}
+use mathlib.Core.Bool.{Bool, true, false, _&&_, _||_}
 use mathlib.Core.Logic.{⊎-elim, _≢_}
 use mathlib.Core.List.{List, []}
 use Prim.Native.Nat.{ℕ, _+_, _<_, _≤_}
 use native.Mathlib.Omega.{arith}
-use lib.Dec.{ltb, eqb}
+use lib.Dec.{ltb}
 use lib.ListN.{length, getD, take}
 use Rattle.std.specs.declared.option.Option.{Option}
 use Rattle.std.specs.declared.option.Option.the-variants.{None}
@@ -41,6 +41,13 @@ none-says most b g m f s e =
 abbrev pub Among : (ℕ → Bool) → ℕ → ℕ → Type 0
 Among f n w = (k : ℕ) → member w k ≡ (ltb k 64 && (ltb k n && f k))
 
+and-none : (b : Bool) → (b && false) ≡ false
+and-none true = refl
+and-none false = refl
+
+pub among-none : (f : ℕ → Bool) → Among f 0 0
+among-none f k = rw (member-zero k, le-ltb k 0 (omega arith)) (sym (and-none (ltb k 64)))
+
 below-more : (f : ℕ → Bool) (n k : ℕ) → k ≢ n → (ltb k n && f k) ≡ (ltb k (n + 1) && f k)
 below-more f n k e =
     ⊎-elim
@@ -60,10 +67,6 @@ module _ (f : ℕ → Bool) (n w : ℕ) (was : Among f n w) where
       (λ (e : k ≢ n). rw (put k, ne-eqb n k (λ z. e (sym z)), and-none (ltb n 64)) (others k e))
       (cases-eq k n)
     where
-      and-none : (b : Bool) → (b && false) ≡ false
-      and-none true = refl
-      and-none false = refl
-
       or-none : (b : Bool) → ((b && true) || (b && false)) ≡ (b && true)
       or-none true = refl
       or-none false = refl
@@ -124,10 +127,3 @@ signature-is b es vs os m x y t le lv te tv ex vy p =
     ap₂ (λ us ws. of-parts us ws (place-in t)) (ap (λ w. rising (member w) 64) te ∙ listed b m x es le e) (ap (λ w. rising (member w) 64) tv ∙ listed b m y vs lv v) ∙
     ap (λ o. of-parts (signature-by b es vs os m .equations) (signature-by b es vs os m .variables) o)
     (fun-ext (λ i. fun-ext (λ j. p i j)) ∙ ap₂ (λ a c. largest (counts b m a c) os) (fun-ext e) (fun-ext v))
-
-pub among-none : (f : ℕ → Bool) → Among f 0 0
-among-none f k = rw (member-zero k, le-ltb k 0 (omega arith)) (sym (and-none (ltb k 64)))
-  where
-    and-none : (b : Bool) → (b && false) ≡ false
-    and-none true = refl
-    and-none false = refl

@@ -3,7 +3,7 @@ ghost use mathlib.Core.Path.{_≡_};
 ghost use mathlib.Core.Bool.{_&&_};
 ghost use Prim.Native.Nat.{ℕ, _≤_};
 ghost use lib.ListN.{length};
-ghost use Rattle.guards.specs.Meaning.{Meaning, says};
+ghost use Rattle.guards.specs.Meaning.{says};
 ghost use Rattle.sets.specs.Word.{member};
 ghost use Rattle.sigma.specs.Tables.{place-in, signature-of};
 ghost use Rattle.std.specs.declared.option.Option.the-variants.{None};

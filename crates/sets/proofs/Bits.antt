@@ -6,44 +6,23 @@ use native.Mathlib.Nat.{pow-succ', div-div-eq-div-mul}
 use native.Mathlib.Omega.{arith}
 use lib.Dec.{eqb}
 use lib.Bits.{bitAnd, bitOr, and-step, or-step, and-shr, or-shr}
+use Rattle.std.proofs.shelf.Ways.{tells}
 use Rattle.sets.specs.Word.{bit}
 
-and-low : (p q : ℕ) → p < 2 → q < 2 → eqb (min p q) 1 ≡ (eqb p 1 && eqb q 1)
-and-low zero zero hp hq = refl
-and-low zero (suc zero) hp hq = refl
-and-low (suc zero) zero hp hq = refl
-and-low (suc zero) (suc zero) hp hq = refl
-and-low (suc (suc p)) q hp hq = absurd (omega arith)
-and-low zero (suc (suc q)) hp hq = absurd (omega arith)
-and-low (suc zero) (suc (suc q)) hp hq = absurd (omega arith)
+abbrev digit : ℕ → ℕ → ℕ
+digit k w = w / 2 ^ k % 2
 
-or-low : (p q : ℕ) → p < 2 → q < 2 → eqb (max p q) 1 ≡ (eqb p 1 || eqb q 1)
-or-low zero zero hp hq = refl
-or-low zero (suc zero) hp hq = refl
-or-low (suc zero) zero hp hq = refl
-or-low (suc zero) (suc zero) hp hq = refl
-or-low (suc (suc p)) q hp hq = absurd (omega arith)
-or-low zero (suc (suc q)) hp hq = absurd (omega arith)
-or-low (suc zero) (suc (suc q)) hp hq = absurd (omega arith)
+and-digit : (k a b : ℕ) → digit k (bitAnd a b) ≡ min (digit k a) (digit k b)
+and-digit k a b = rw and-shr (omega (arith, and-step (a / 2 ^ k) (b / 2 ^ k)))
 
-not-low : (p : ℕ) → p < 2 → eqb (1 - p) 1 ≡ not (eqb p 1)
-not-low zero h = refl
-not-low (suc zero) h = refl
-not-low (suc (suc p)) h = absurd (omega arith)
+pub bit-and : (k a b : ℕ) → bit k (bitAnd a b) ≡ (bit k a && bit k b)
+bit-and k a b = rw and-digit (grind (arith, tells))
 
-pub bit-and : (m a b : ℕ) → bit m (bitAnd a b) ≡ (bit m a && bit m b)
-bit-and m a b =
-    let x : ℕ = a / 2 ^ m in
-    let y : ℕ = b / 2 ^ m in
-    let low : bitAnd x y % 2 ≡ min (x % 2) (y % 2) = omega (arith, and-step x y) in
-    ap (λ n. eqb (n % 2) 1) (and-shr a b m) ∙ ap (λ n. eqb n 1) low ∙ and-low (x % 2) (y % 2) (omega arith) (omega arith)
+or-digit : (k a b : ℕ) → digit k (bitOr a b) ≡ max (digit k a) (digit k b)
+or-digit k a b = rw or-shr (omega (arith, or-step (a / 2 ^ k) (b / 2 ^ k)))
 
-pub bit-or : (m a b : ℕ) → bit m (bitOr a b) ≡ (bit m a || bit m b)
-bit-or m a b =
-    let x : ℕ = a / 2 ^ m in
-    let y : ℕ = b / 2 ^ m in
-    let low : bitOr x y % 2 ≡ max (x % 2) (y % 2) = omega (arith, or-step x y) in
-    ap (λ n. eqb (n % 2) 1) (or-shr a b m) ∙ ap (λ n. eqb n 1) low ∙ or-low (x % 2) (y % 2) (omega arith) (omega arith)
+pub bit-or : (k a b : ℕ) → bit k (bitOr a b) ≡ (bit k a || bit k b)
+bit-or k a b = rw or-digit (grind (arith, tells))
 
 pub bit-suc : (s m : ℕ) → bit (suc s) m ≡ bit s (m / 2)
 bit-suc s m =
@@ -53,13 +32,16 @@ bit-suc s m =
 pub bit-zero : (m : ℕ) → bit 0 m ≡ eqb (m % 2) 1
 bit-zero m = ap (λ n. eqb (n % 2) 1) (omega arith)
 
+opposite : (p : ℕ) → p < 2 → eqb (1 - p) 1 ≡ not (eqb p 1)
+opposite p h = grind (arith, tells)
+
 -- the opposite of a word of k bits
 pub bit-not : (k m a : ℕ) → m < k → a < 2 ^ k → bit m ((2 ^ k - 1) - a) ≡ not (bit m a)
 bit-not zero m a h l = absurd (omega arith)
 bit-not (suc k) zero a h l =
     let e : 2 ^ suc k ≡ 2 * 2 ^ k = pow-succ' 2 k in
     let low : ((2 ^ suc k - 1) - a) % 2 ≡ 1 - a % 2 = omega arith in
-    bit-zero ((2 ^ suc k - 1) - a) ∙ ap (λ n. eqb n 1) low ∙ not-low (a % 2) (omega arith) ∙ ap not (sym (bit-zero a))
+    bit-zero ((2 ^ suc k - 1) - a) ∙ ap (λ n. eqb n 1) low ∙ opposite (a % 2) (omega arith) ∙ ap not (sym (bit-zero a))
 bit-not (suc k) (suc m) a h l =
     let e : 2 ^ suc k ≡ 2 * 2 ^ k = pow-succ' 2 k in
     let half : ((2 ^ suc k - 1) - a) / 2 ≡ (2 ^ k - 1) - a / 2 = omega arith in

@@ -12,7 +12,7 @@ use Rattle.guards.specs.Meaning.{Meaning, modes}
 use Rattle.sigma.specs.Signature.{Signature}
 use Rattle.reading.specs.Signatures.{signature-by}
 use Rattle.sheet.specs.declared.lines.Lines.{Lines}
-use Rattle.sheet.specs.Ledger.{Ledger, of-lines}
+use Rattle.sheet.specs.Ledger.{of-lines}
 use Rattle.sheet.specs.Signatures.{allowed, signed}
 
 -- the front of a list, as the code lends it

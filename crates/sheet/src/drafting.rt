@@ -1,6 +1,5 @@
 // The drafting calls, and the passage between draft and issued sheet.
 ghost use mathlib.Core.Path.{_≡_};
-ghost use Prim.Native.Nat.{_≤_};
 ghost use Rattle.guards.specs.declared.entry.Entry.the-variants.{Switch, Not, Both, Either};
 ghost use Rattle.sheet.specs.declared.call.Change.the-variants.{Equation, Variable, Place, Strike, Assume};
 ghost use Rattle.sheet.specs.Ledger.{of-draft, of-issued};
@@ -28,7 +27,7 @@ impl<B: GuardBook> Draft<B> {
     }
 
     // The new guard's number, or why it is not entered.
-    pub fn enter(&mut self, entry: Entry) -> Result<usize, Fault>
+    fn enter(&mut self, entry: Entry) -> Result<usize, Fault>
         ensures { λ r. ⌜ Enters (of-draft meaning (now (self .entry))) entry r (of-draft meaning (now (self .exit))) ⌝ }
     {
         self.book.enter(entry)

@@ -8,7 +8,7 @@ pub use striking::check_counts;
 pub mod call;
 mod drafting;
 mod lines;
-mod reading;
+mod modes;
 mod striking;
 
 #[derive(Drop)]

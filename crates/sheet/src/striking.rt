@@ -1,6 +1,5 @@
 // Making the lines, and striking occurrences from them.
 ghost use mathlib.Core.Path.{_≡_};
-ghost use mathlib.Core.Bool.{not};
 ghost use Prim.Native.Nat.{_≤_};
 ghost use lib.ListN.{length, replicate, take};
 ghost use Rattle.std.specs.shelf.Lists.{kept-by};

@@ -1,7 +1,7 @@
 -- Drawing the records along a chain. Assumes nothing.
 use mathlib.Core.Path.{_≡_, refl, sym, ap, ap₂, subst, _∙_}
 use mathlib.Core.List.{List, [], _∷_}
-use Prim.Native.Nat.{ℕ, zero, suc, _+_, _≤_}
+use Prim.Native.Nat.{ℕ, _+_, _≤_}
 use native.Mathlib.Omega.{arith}
 use lib.ListN.{length}
 use Rattle.std.specs.declared.result.Result.{Result}
@@ -11,7 +11,7 @@ use Rattle.sheetfile.specs.declared.fault.FileFault.{FileFault}
 use Rattle.sheetfile.specs.Format.{part-of, call-of, count-of}
 use Rattle.sheetfile.specs.Opening.{Chain, link}
 use Rattle.sheetfile.specs.Stepping.{Hands}
-use Rattle.sheetfile.specs.Drawn.{Meeting, Drawing, Draws, DrawsAll, drawn, drawn-ledger, drawing, onward, told-met, all-drawn}
+use Rattle.sheetfile.specs.Drawn.{Draws, DrawsAll, drawn, drawn-ledger, onward, told-met, all-drawn}
 use Rattle.sheetfile.proofs.Walks.{bounded}
 
 -- after i records: what is left to draw on l from number p comes to what drawing the numbers ns on a comes to

@@ -67,7 +67,7 @@ fn is_headed(bytes: &[u8]) -> bool
 }
 
 // Whether the eight bytes of a record ask for a call.
-pub fn is_sound(part: &[u8]) -> bool
+fn is_sound(part: &[u8]) -> bool
     ensures says { λ r. ⌜ r ≡ sound (now (part .entry)) ⌝ }
     ensures long { λ r. ⌜ (r ≡ true → length (now (part .entry)) ≡ 8) ⌝ }
 {

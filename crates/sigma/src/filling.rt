@@ -2,9 +2,7 @@
 ghost use mathlib.Core.Path.{_≡_};
 ghost use mathlib.Core.Bool.{true, cond};
 ghost use Prim.Native.Nat.{ℕ, max, _<_};
-ghost use lib.ListN.{getD};
 ghost use Rattle.std.specs.declared.option.Option.the-variants.{None};
-ghost use Rattle.sets.specs.Word.{member};
 ghost use Rattle.sigma.specs.Tables.{place-in, both-active, counted};
 use crate::Table;
 use sets::has;

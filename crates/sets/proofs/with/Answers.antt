@@ -1,12 +1,6 @@
-use Prim.Native.Nat.{_^_}
-use mathlib.Core.Path.{_≡_, ap, _∙_}
-use mathlib.Core.Bool.{_||_, _&&_}
 use native.Mathlib.Omega.{arith}
-use lib.Bits.{bitOr}
-use lib.Dec.{eqb}
 use Rattle.std.proofs.shelf.Bits.{one-shl}
 use Rattle.std.proofs.shelf.Tests.{lt-ltb}
-use Rattle.sets.specs.Word.{member}
 use Rattle.sets.proofs.Members.{or-member}
 use Rattle.sets.proofs.with.Needs as need
 

@@ -1,4 +1,4 @@
-use mathlib.Core.Path.{_≡_, refl, sym}
+use mathlib.Core.Path.{refl, sym}
 use borrow.Author.Needs.{needs}
 use Rattle.sets.proofs.Members.{member-below}
 use Rattle.sigma.proofs.Table.count.Needs as need

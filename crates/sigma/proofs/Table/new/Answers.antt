@@ -1,5 +1,4 @@
-use mathlib.Core.Path.{refl, sym, ap, _∙_}
-use lib.ListN.{length, replicate}
+use mathlib.Core.Path.{refl, sym, _∙_}
 use Rattle.sigma.proofs.Places.{bare, rows-zero}
 use Rattle.sigma.proofs.Table.new.Needs as need
 

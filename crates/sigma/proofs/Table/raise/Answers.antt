@@ -1,13 +1,10 @@
-use mathlib.Core.Path.{_≡_, refl, ap, sym, _∙_}
-use mathlib.Core.Bool.{cond, _&&_}
-use mathlib.Core.List.{[]}
-use Prim.Native.Nat.{ℕ, _<_}
+use mathlib.Core.Path.{refl}
 use borrow.Author.Needs.{needs}
 use native.Mathlib.Omega.{arith}
-use lib.ListN.{length, getD}
+use lib.ListN.{getD}
 use Rattle.sets.specs.Word.{member}
 use Rattle.sigma.specs.Tables.{both-active}
-use Rattle.sigma.proofs.Places.{here, joined-at, agree-again, within-again, rows-again, place-again}
+use Rattle.sigma.proofs.Places.{joined-at, agree-again, within-again, rows-again, place-again}
 use Rattle.sigma.proofs.Table.raise.Needs as need
 
 pub ghost-self : need.ghost-self

@@ -1,6 +1,6 @@
 // What an issued sheet answers about a mode.
 ghost use mathlib.Core.Path.{_≡_};
-ghost use Rattle.guards.specs.Meaning.{Meaning, modes};
+ghost use Rattle.guards.specs.Meaning.{modes};
 ghost use Rattle.sheet.specs.Ledger.{of-issued};
 ghost use Rattle.sheet.specs.Past.{Past, ledger-of};
 ghost use Rattle.sheet.specs.Signatures.{signed, shown};
