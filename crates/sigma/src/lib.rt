@@ -1,4 +1,4 @@
-// The signature of a mode as a table: the active equations and variables as words, which places are filled as a word for each equation and for each variable, and the orders there.
+// The signature of a mode as a table: the active equations and variables as words, which places are filled, and the orders there.
 ghost use mathlib.Core.Path.{_≡_};
 ghost use mathlib.Core.Bool.{_&&_};
 ghost use mathlib.Core.List.{[]};
@@ -12,8 +12,11 @@ mod filling;
 pub struct Table {
     pub equations: u64,
     pub variables: u64,
+    // the variables at the filled places of an equation
     pub across: [u64; 64],
+    // the equations at the filled places of a variable
     pub down: [u64; 64],
+    // by equation and variable; of no account at an empty place
     pub orders: [[u8; 64]; 64],
     ghost whole_across: { length across ≡ 64 },
     ghost whole_down: { length down ≡ 64 },
