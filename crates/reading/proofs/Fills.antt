@@ -12,7 +12,7 @@ use Rattle.std.specs.declared.option.Option.the-variants.{None}
 use Rattle.std.specs.declared.result.Result.the-variants.{Ok, Err}
 use Rattle.std.proofs.shelf.Tests.{cases-eq, cases-lt, lt-ltb, le-ltb, eq-eqb, ne-eqb}
 use Rattle.std.proofs.shelf.Sums.{folded-more}
-use Rattle.std.proofs.shelf.Lists.{getD-past}
+use Rattle.std.proofs.shelf.Lists.{getD-past, getD-take, length-take}
 use Rattle.faults.specs.declared.Fault.{Fault}
 use Rattle.faults.specs.Refusals.{refusal}
 use Rattle.guards.specs.Meaning.{Meaning, Sound, says, modes}
@@ -24,7 +24,7 @@ use Rattle.sigma.specs.Tables.{place-in, signature-of}
 use Rattle.sigma.specs.declared.Table.{Table}
 use Rattle.sigma.proofs.Risings.{rising-same, rising-past}
 use Rattle.reading.specs.declared.occurrence.Occurrence.{Occurrence}
-use Rattle.reading.specs.Signatures.{active, active-below-64, counts, joined, largest, signature-by}
+use Rattle.reading.specs.Signatures.{active, counts, joined, largest, signature-by}
 
 -- a question that is declined is about no guard or no mode of the book
 pub none-says : (most : ℕ) (b : Meaning) (g m : ℕ) (f : Fault) → Sound most b → Err (refusal f) ≡ asked b g m → says b g m ≡ false
@@ -102,12 +102,15 @@ filled-more b m es vs os n t x l f re ce p = record {
       sym (folded-more (joined (counts b m (member es) (member vs)) i j) None os n no-occurrence l);
 }
 
--- where there are at most 64, the bound of sets says nothing
-below-64 : (b : Meaning) (m : ℕ) (xs : List ℕ) (k : ℕ) → length xs ≤ 64 → active-below-64 b m xs k ≡ active b m xs k
-below-64 b m xs k l =
+-- activity among the first 64
+pub first-64 : (b : Meaning) (m : ℕ) (xs : List ℕ) (k : ℕ) → (ltb k 64 && active b m xs k) ≡ active b m (take 64 xs) k
+first-64 b m xs k =
     ⊎-elim
-    (λ (h : k < 64). rw (lt-ltb k 64 h) refl)
-    (λ (h : 64 ≤ k). rw (le-ltb k 64 h, le-ltb k (length xs) (omega arith)) refl)
+    (λ (h : k < 64). ⊎-elim
+    (λ (l : k < length xs). rw (lt-ltb k 64 h, lt-ltb k (length xs) l, lt-ltb k (length (take 64 xs)) (omega (arith, length-take 64 xs)), getD-take 64 xs k 0 h) refl)
+    (λ (l : length xs ≤ k). rw (lt-ltb k 64 h, le-ltb k (length xs) l, le-ltb k (length (take 64 xs)) (omega (arith, length-take 64 xs))) refl)
+    (cases-lt k (length xs)))
+    (λ (h : 64 ≤ k). rw (le-ltb k 64 h, le-ltb k (length (take 64 xs)) (omega (arith, length-take 64 xs))) refl)
     (cases-lt k 64)
 
 -- the members of a set of what is active
@@ -118,12 +121,10 @@ abbrev of-parts : List ℕ → List ℕ → (ℕ → ℕ → Option ℕ) → Sig
 of-parts es vs p = record { equations = es; variables = vs; place = p }
 
 pub signature-is : (b : Meaning) (es vs : List ℕ) (os : List Occurrence) (m x y : ℕ) (t : Table) → length es ≤ 64 → length vs ≤ 64 → t .equations ≡ x → t .variables ≡ y →
-    ((k : ℕ) → member x k ≡ active-below-64 b m es k) → ((k : ℕ) → member y k ≡ active-below-64 b m vs k) →
+    ((k : ℕ) → member x k ≡ active b m es k) → ((k : ℕ) → member y k ≡ active b m vs k) →
     ((i j : ℕ) → place-in t i j ≡ largest (counts b m (member x) (member y)) os i j) →
     signature-of t ≡ signature-by b es vs os m
-signature-is b es vs os m x y t le lv te tv ex vy p =
-    let e : (k : ℕ) → member x k ≡ active b m es k = λ k. ex k ∙ below-64 b m es k le in
-    let v : (k : ℕ) → member y k ≡ active b m vs k = λ k. vy k ∙ below-64 b m vs k lv in
+signature-is b es vs os m x y t le lv te tv e v p =
     ap₂ (λ us ws. of-parts us ws (place-in t)) (ap (λ w. rising (member w) 64) te ∙ listed b m x es le e) (ap (λ w. rising (member w) 64) tv ∙ listed b m y vs lv v) ∙
     ap (λ o. of-parts (signature-by b es vs os m .equations) (signature-by b es vs os m .variables) o)
     (fun-ext (λ i. fun-ext (λ j. p i j)) ∙ ap₂ (λ a c. largest (counts b m a c) os) (fun-ext e) (fun-ext v))

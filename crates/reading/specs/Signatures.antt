@@ -37,7 +37,3 @@ signature-by b es vs os m = record {
   variables = rising (active b m vs) (length vs);
   place = largest (counts b m (active b m es) (active b m vs)) os;
 }
-
--- for a private function: sets hold numbers below 64
-abbrev pub active-below-64 : Meaning → ℕ → List ℕ → ℕ → Bool
-active-below-64 b m guards k = ltb k 64 && active b m guards k

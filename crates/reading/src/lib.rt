@@ -1,13 +1,13 @@
 // The signature of a mode, asked from a guard book about lists of guards and occurrences.
 ghost use mathlib.Core.Path.{_≡_};
 ghost use mathlib.Core.Bool.{_&&_};
-ghost use Prim.Native.Nat.{ℕ, _≤_};
-ghost use lib.ListN.{length};
+ghost use Prim.Native.Nat.{ℕ};
+ghost use lib.ListN.{take};
 ghost use Rattle.guards.specs.Meaning.{says};
 ghost use Rattle.sets.specs.Word.{member};
 ghost use Rattle.sigma.specs.Tables.{place-in, signature-of};
 ghost use Rattle.std.specs.declared.option.Option.the-variants.{None};
-ghost use Rattle.reading.specs.Signatures.{active, active-below-64, counts, joined, largest, signature-by};
+ghost use Rattle.reading.specs.Signatures.{active, counts, joined, largest, signature-by};
 use guards::GuardBook;
 pub use occurrence::Occurrence;
 use sets::has;
@@ -26,9 +26,9 @@ pub fn says<B: GuardBook>(book: &B, guard: usize, mode: usize) -> bool
     }
 }
 
-// Those whose guards say yes, as a set.
+// Those of the first 64 whose guards say yes, as a set.
 fn active<B: GuardBook>(book: &B, guards: &[u8], mode: usize) -> u64
-    ensures { λ r. ⌜ ((k : ℕ) → member r k ≡ active-below-64 (meaning (now (book .entry))) mode (now (guards .entry)) k) ⌝ }
+    ensures { λ r. ⌜ ((k : ℕ) → member r k ≡ active (meaning (now (book .entry))) mode (take 64 (now (guards .entry))) k) ⌝ }
 {
     let mut set = 0;
     for k in 0..guards.len() {
@@ -66,7 +66,7 @@ fn fill<B: GuardBook>(book: &B, occurrences: &[Occurrence], mode: usize, table: 
     }
 }
 
-// The signature in a mode: of the equations and variables with these guards, and of these occurrences.
+// The signature in a mode: of the first 64 equations and variables with these guards, and of these occurrences.
 pub fn signature<B: GuardBook>(
     book: &B,
     equations: &[u8],
@@ -74,7 +74,7 @@ pub fn signature<B: GuardBook>(
     occurrences: &[Occurrence],
     mode: usize,
 ) -> Table
-    ensures { λ r. ⌜ (length (now (equations .entry)) ≤ 64 → length (now (variables .entry)) ≤ 64 → signature-of r ≡ signature-by (meaning (now (book .entry))) (now (equations .entry)) (now (variables .entry)) (now (occurrences .entry)) mode) ⌝ }
+    ensures { λ r. ⌜ signature-of r ≡ signature-by (meaning (now (book .entry))) (take 64 (now (equations .entry))) (take 64 (now (variables .entry))) (now (occurrences .entry)) mode ⌝ }
 {
     let mut table = Table::new(active(book, equations, mode), active(book, variables, mode));
     fill(book, occurrences, mode, &mut table);

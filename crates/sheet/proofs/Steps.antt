@@ -22,7 +22,7 @@ use Rattle.sheet.specs.declared.lines.Lines.{Lines}
 use Rattle.sheet.specs.declared.call.Change.{Change}
 use Rattle.sheet.specs.declared.call.Change.the-variants.{Equation, Variable, Place, Strike}
 use Rattle.sheet.specs.Ledger.{Ledger, of-lines}
-use Rattle.sheet.specs.Calls.{reply, changed, Drafts, occurs, other, unstruck, fresh-sheet}
+use Rattle.sheet.specs.Calls.{reply, changed, Drafts, occurs, named, other, struck, unstruck, fresh-sheet}
 
 accepted : (l : Ledger) (c : Change) (x : Ledger) → reply l c ≡ Ok tt → x ≡ changed l c → Drafts l c (Ok tt) x
 accepted l c x a e = record { given = sym a; left = e ∙ sym (ap (λ r. settle r (changed l c) l) a) }
@@ -82,16 +82,20 @@ module _ (b : Meaning) (t : Lines) where
     left-are : length (unstruck (of-lines b t) i j g) ≡ k
     left-are = sym (ap length kept) ∙ length-take-le k os (omega arith)
 
-    pub struck : k < t .count → Drafts (of-lines b t) (Strike i j g) (Ok tt) struck-ledger
-    struck l =
+    -- those struck are those gone
+    gone : length (struck (of-lines b t) i j g) + k ≡ t .count
+    gone = omega (arith, left-are, occurrences-are, length-kept-by-both (named i j g) (other i j g) (λ o. refl) (of-lines b t .occurrences))
+
+    pub some-struck : k < t .count → Drafts (of-lines b t) (Strike i j g) (Ok tt) struck-ledger
+    some-struck l =
         accepted (of-lines b t) (Strike i j g) _
-        (rw (lt-ltb g (length (b .guards)) a, equations-are, lt-ltb i (t .equations) e, variables-are, lt-ltb j (t .variables) v, left-are, occurrences-are, lt-ltb k (t .count) l) refl)
+        (rw (lt-ltb g (length (b .guards)) a, equations-are, lt-ltb i (t .equations) e, variables-are, lt-ltb j (t .variables) v, lt-ltb 0 (length (struck (of-lines b t) i j g)) (omega (arith, gone))) refl)
         (ap (λ xs. ledger b (of-lines b t .equations) (of-lines b t .variables) xs (t .assumed)) kept)
 
-    pub unstruck-as-was : t .count ≤ k → Drafts (of-lines b t) (Strike i j g) (Err NothingToStrike) struck-ledger
-    unstruck-as-was l =
+    pub none-struck : t .count ≤ k → Drafts (of-lines b t) (Strike i j g) (Err NothingToStrike) struck-ledger
+    none-struck l =
         declined (of-lines b t) (Strike i j g) NothingToStrike _
-        (rw (lt-ltb g (length (b .guards)) a, equations-are, lt-ltb i (t .equations) e, variables-are, lt-ltb j (t .variables) v, left-are, occurrences-are, le-ltb k (t .count) l) refl)
+        (rw (lt-ltb g (length (b .guards)) a, equations-are, lt-ltb i (t .equations) e, variables-are, lt-ltb j (t .variables) v, le-ltb 0 (length (struck (of-lines b t) i j g)) (omega (arith, gone))) refl)
         (ap (λ xs. ledger b (of-lines b t .equations) (of-lines b t .variables) xs (t .assumed)) (kept ∙ kept-whole (other i j g) (of-lines b t .occurrences) (omega (arith, left-are, occurrences-are))))
 
   pub fresh : (n m : ℕ) → t .equations ≡ n → t .variables ≡ m → t .«equation_guards» ≡ replicate 64 0 → t .«variable_guards» ≡ replicate 64 0 → t .count ≡ 0 → t .assumed ≡ 0 →

@@ -39,14 +39,17 @@ has-equation l i = ltb i (length (l .equations))
 abbrev pub has-variable : Ledger → ℕ → Bool
 has-variable l j = ltb j (length (l .variables))
 
--- a strike that names i, j and g is about this occurrence, or about others
+-- a strike that names i, j and g is about this occurrence
 abbrev pub named : ℕ → ℕ → ℕ → Occurrence → Bool
 named i j g o = eqb (o .equation) i && (eqb (o .variable) j && eqb (o .guard) g)
 
 abbrev pub other : ℕ → ℕ → ℕ → Occurrence → Bool
 other i j g o = not (named i j g o)
 
--- the occurrences that stand after a strike
+-- the occurrences that a strike is about, and those that stand after it
+abbrev pub struck : Ledger → ℕ → ℕ → ℕ → List Occurrence
+struck l i j g = kept-by (named i j g) (l .occurrences)
+
 abbrev pub unstruck : Ledger → ℕ → ℕ → ℕ → List Occurrence
 unstruck l i j g = kept-by (other i j g) (l .occurrences)
 
@@ -70,7 +73,7 @@ reply l (Place i j o g) =
 reply l (Strike i j g) =
     provided (has-guard l g) NoSuchGuard (
     provided (has-equation l i && has-variable l j) NoSuchPlace (
-    provided (ltb (length (unstruck l i j g)) (length (l .occurrences))) NothingToStrike (Ok tt)))
+    provided (ltb 0 (length (struck l i j g))) NothingToStrike (Ok tt)))
 reply l (Assume g) = provided (has-guard l g) NoSuchGuard (Ok tt)
 
 abbrev pub occurs : ℕ → ℕ → ℕ → ℕ → Occurrence

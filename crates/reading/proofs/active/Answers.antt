@@ -5,7 +5,7 @@ use native.Mathlib.Omega.{arith}
 use lib.Dec.{ltb}
 use lib.ListN.{length, getD}
 use Rattle.guards.specs.Meaning.{says}
-use Rattle.reading.proofs.Fills.{among-none, among-more, among-same}
+use Rattle.reading.proofs.Fills.{among-none, among-more, among-same, first-64}
 use Rattle.reading.proofs.active.Needs as need
 use Rattle.reading.proofs.active.Needs.{then-says, else-says}
 
@@ -22,5 +22,7 @@ loop-k-again g c =
 
 pub returns : need.returns
 returns g c =
-    let e : c .loop-k .k ≡ length (c .args .guards .now) = omega arith in
-    λ k. c .loop-k .inv k ∙ ap (λ n. ltb k 64 && (ltb k n && says (g .B·GuardBook .meaning (c .args .book .now)) (getD (c .args .guards .now) k 0) (c .args .mode))) e
+    let b = g .B·GuardBook .meaning (c .args .book .now) in
+    let xs = c .args .guards .now in
+    let e : c .loop-k .k ≡ length xs = omega arith in
+    λ k. c .loop-k .inv k ∙ ap (λ n. ltb k 64 && (ltb k n && says b (getD xs k 0) (c .args .mode))) e ∙ first-64 b (c .args .mode) xs k
