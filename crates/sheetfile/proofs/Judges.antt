@@ -11,10 +11,10 @@ use Rattle.std.proofs.shelf.Tests.{cond-both, cond-true, cond-false, eqb-true, 
 use Rattle.std.proofs.shelf.Ways.{tells}
 use Rattle.faults.specs.declared.Fault.{Fault}
 use Rattle.faults.specs.declared.Fault.the-variants.{BadLength, BadHeader, BadLink, BadRecord, EndlessChain}
-use Rattle.faults.specs.Refusals.{refusal, told}
+use Rattle.faults.specs.Refusals.{told}
 use Rattle.sheetfile.specs.Format.{first-of, count-of, part-of, next-of, sound}
 use Rattle.sheetfile.specs.Opening.{Whole, Headed, Links, Chain, done, link, Named, first, Beyond, by-header, by-record, Faulty, Never, Judged, chained, odd-length, bad-header, beyond, faulty, never}
-use Rattle.sheetfile.specs.Judging.{is-whole, is-headed, preceded, walked, opening, Opened, One-answer}
+use Rattle.sheetfile.specs.Judging.{is-whole, is-headed, preceded, walked, opening, Opened, Refused, One-answer}
 use Rattle.sheetfile.proofs.Walks.{Way, way-none, way-more, way-of, way-all, way-low, stops-within, chain-low, walked-chain, walked-never, walked-along, bounded}
 
 refuted : (b : Bool) → (b ≡ true → ⊥) → b ≡ false
@@ -111,16 +111,20 @@ pub opened : (f : List ℕ) (p : ℕ) → Whole f → Headed f → p ≡ first-o
 opened f p w h e o = record {
   numbers = o .0;
   answer = sym (unique f (Ok (o .0)) (chained (o .0) w h (o .1)));
+  right = chained (o .0) w h (o .1);
   chain = subst (λ x. Chain f x (o .0)) (sym e) (o .1);
 }
 
 pub one-answer : One-answer
 one-answer f = (judged f, unique f)
 
-pub odd-length-told : (f : List ℕ) → is-whole f ≡ false → told (opening f) ≡ Err (refusal BadLength)
-unfolding opening
-odd-length-told f w = rw w refl
+pub refused : (f : List ℕ) (e : Fault) → opening f ≡ Err e → Refused f e
+refused f e q = record { answer = ap told q; right = subst (Judged f) q (judged f) }
 
-pub bad-header-told : (f : List ℕ) → is-whole f ≡ true → is-headed f ≡ false → told (opening f) ≡ Err (refusal BadHeader)
+pub odd-length-refused : (f : List ℕ) → is-whole f ≡ false → Refused f BadLength
 unfolding opening
-bad-header-told f w h = rw (w, h) refl
+odd-length-refused f w = refused f BadLength (rw w refl)
+
+pub bad-header-refused : (f : List ℕ) → is-whole f ≡ true → is-headed f ≡ false → Refused f BadHeader
+unfolding opening
+bad-header-refused f w h = refused f BadHeader (rw (w, h) refl)

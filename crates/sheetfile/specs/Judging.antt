@@ -9,6 +9,7 @@ use Rattle.std.specs.declared.result.Result.{Result}
 use Rattle.std.specs.declared.result.Result.the-variants.{Ok, Err}
 use Rattle.faults.specs.declared.Fault.{Fault}
 use Rattle.faults.specs.declared.Fault.the-variants.{BadLength, BadHeader, BadLink, BadRecord, EndlessChain}
+use Rattle.faults.specs.Refusals.{refusal, told}
 use Rattle.sheetfile.specs.Format.{byte, first-of, switches-of, equations-of, variables-of, count-of, part-of, next-of, sound}
 use Rattle.sheetfile.specs.Opening.{Chain, Judged}
 
@@ -45,4 +46,10 @@ One-answer = (f : List ℕ) → Judged f (opening f) × ((r : Result (List ℕ) 
 pub record Opened (f : List ℕ) (p : ℕ) : Type 0 where
   pub numbers : List ℕ
   pub answer : opening f ≡ Ok numbers
+  pub right : Judged f (Ok numbers)
   pub chain : Chain f p numbers
+
+-- the file is refused
+pub record Refused (f : List ℕ) (e : Fault) : Type 0 where
+  pub answer : told (opening f) ≡ Err (refusal e)
+  pub right : Judged f (Err e)

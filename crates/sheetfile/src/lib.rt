@@ -6,10 +6,9 @@ ghost use Prim.Native.Nat.{ℕ};
 ghost use lib.ListN.{length};
 ghost use Rattle.std.specs.Results.{Cases};
 ghost use Rattle.std.specs.declared.result.Result.the-variants.{Ok, Err};
-ghost use Rattle.faults.specs.Refusals.{refusal, told};
 ghost use Rattle.sheetfile.specs.Format.{byte, pair, switches-of, equations-of, variables-of, count-of, sound};
 ghost use Rattle.sheetfile.specs.Opening.{Whole, Headed, Chain};
-ghost use Rattle.sheetfile.specs.Judging.{is-whole, is-headed, opening, Opened, One-answer};
+ghost use Rattle.sheetfile.specs.Judging.{is-whole, is-headed, opening, Opened, Refused, One-answer};
 ghost use Rattle.sheetfile.specs.Stepping.{Hands};
 ghost use Rattle.sheetfile.specs.Letters.{Table, Hoist-opens};
 pub use drawing::FileFaultFrom;
@@ -113,7 +112,7 @@ fn walk(bytes: &[u8]) -> Result<usize, Fault>
 
 impl<'a> SheetFile<'a> {
     pub fn open(bytes: &'a [u8]) -> Result<SheetFile<'a>, Fault>
-        ensures { λ r. ⌜ Cases r (λ s. (now (s .bytes) ≡ now (bytes .entry)) × Opened (now (bytes .entry)) (s .place)) (λ e. told (opening (now (bytes .entry))) ≡ Err (refusal e)) ⌝ }
+        ensures { λ r. ⌜ Cases r (λ s. (now (s .bytes) ≡ now (bytes .entry)) × Opened (now (bytes .entry)) (s .place)) (λ e. Refused (now (bytes .entry)) e) ⌝ }
     {
         if !is_whole(bytes) {
             return Err(Fault::BadLength);
