@@ -1,4 +1,6 @@
 // The seventeen refusals of the analyser, with their details.
+#![tactic(auto)]
+
 ghost use Rattle.std.specs.Prelude.{◌≡◌, Some};
 ghost use Rattle.faults.specs.Refusals.{refusal, layer_name, ToldApart, record_named};
 

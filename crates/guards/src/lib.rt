@@ -1,4 +1,6 @@
 // Guard books: switches, some of them held, and a list of guards, each a yes or no for every mode.
+#![tactic(auto)]
+
 ghost use Rattle.std.specs.Prelude.{◌≡◌, ℕ, ◌≤◌, length, nat_lt};
 ghost use Rattle.faults.specs.declared.Fault.TheVariants.{TooLarge};
 ghost use Rattle.faults.specs.Refusals.{told, bare};

@@ -1,4 +1,6 @@
 // Fills a word book with guards, tries one more, and asks every guard in every mode, free and held.
+#![tactic(auto)]
+
 ghost use Rattle.std.specs.Prelude.{◌≡◌, ◌+◌, ◌≤◌, true, length, OnOk};
 ghost use Rattle.guards.specs.Calls.{named};
 
@@ -33,14 +35,14 @@ fn trial_entry(n: usize) -> Entry
 
 // Enters the next guard of the trial.
 fn enter_next<B: GuardBook>(book: &mut B) -> Result<usize, Fault>
-    ensures { OnOk result (length (meaning book.new).guards ≡ length (meaning book.old).guards + 1) }
+    ensures { OnOk result (length (B.meaning book.new).guards ≡ length (B.meaning book.old).guards + 1) }
 {
     book.enter(trial_entry(book.guards()))
 }
 
 // Enters guards until 64 stand.
 fn fill<B: GuardBook>(book: &mut B) -> Result<(), Fault>
-    ensures { OnOk result (length (meaning book.new).guards ≡ 64) }
+    ensures { OnOk result (length (B.meaning book.new).guards ≡ 64) }
 {
     for _ in book.guards()..64 {
         enter_next(book)?;

@@ -1,4 +1,6 @@
 // A guard book over any other, with one of its switches held on or off.
+#![tactic(auto)]
+
 ghost use Rattle.std.specs.Prelude.{◌≡◌, ◌<◌, nat_le};
 ghost use Rattle.faults.specs.declared.Fault.TheVariants.{NoSuchSwitch};
 ghost use Rattle.faults.specs.Refusals.{bare};
@@ -21,7 +23,7 @@ pub struct Held<B: GuardBook> {
 impl<B: GuardBook> Held<B> {
     // 0, or the number of the refusal where the book has no such switch.
     pub fn check_switch(below: &B, switch: usize) -> u8
-        ensures { result ≡ bare (nat_le (meaning below.now).switches switch) NoSuchSwitch }
+        ensures { result ≡ bare (nat_le (B.meaning below.now).switches switch) NoSuchSwitch }
     {
         if switch >= below.switches() {
             Fault::NoSuchSwitch.number()
@@ -32,14 +34,14 @@ impl<B: GuardBook> Held<B> {
 
     // Holds a switch of the book below; nothing where `check_switch` would refuse it.
     pub fn new(below: B, switch: usize, on: bool) -> Self
-        ensures { of_held meaning result ≡ held switch on (meaning below) }
+        ensures { of_held B.meaning result ≡ held switch on (B.meaning below) }
     {
         Held { below, switch, on }
     }
 
     // A mode with the switch put where it is held.
     fn put(&self, mode: usize) -> usize
-        ensures { result ≡ put_mode self.now.switch self.now.on (meaning self.now.below) mode }
+        ensures { result ≡ put_mode self.now.switch self.now.on (B.meaning self.now.below) mode }
     {
         if self.switch >= self.below.switches() {
             return mode;

@@ -1,4 +1,6 @@
 // Reads a sheet file from standard input and prints the signature of each allowed mode as a matrix.
+#![tactic(auto)]
+
 use guards::GuardBook;
 use rowbook::RowBook;
 use sets::has;

@@ -1,4 +1,6 @@
 // A guard book that keeps each entry with the numbers that it names, and works a question out.
+#![tactic(auto)]
+
 ghost use Rattle.std.specs.Prelude.{◌≡◌, ℕ, ◌+◌, ◌<◌, ◌≤◌, true, length, slice_index_or};
 ghost use Rattle.guards.specs.declared.entry.Entry.TheVariants.{Switch};
 ghost use Rattle.guards.specs.Calls.{named};

@@ -1,4 +1,6 @@
 // Sets of numbers below 64 as words: bit i is 1 exactly when i is a member.
+#![tactic(auto)]
+
 ghost use Rattle.std.specs.Prelude.{◌≡◌, ℕ, ◌||◌};
 ghost use Rattle.sets.specs.Word.{member, joins};
 

@@ -14,7 +14,7 @@ use reading::Occurrence;
 
 impl<B: GuardBook> Draft<B> {
     pub fn new(book: B, equations: usize, variables: usize) -> Self
-        ensures { of_draft meaning result ≡ new_sheet (meaning book) equations variables }
+        ensures { of_draft B.meaning result ≡ new_sheet (B.meaning book) equations variables }
     {
         let lines = if check_counts(equations, variables) == 0 {
             Lines::new(equations, variables)
@@ -26,38 +26,38 @@ impl<B: GuardBook> Draft<B> {
 
     // The new guard's number, or why it is not entered.
     fn enter(&mut self, entry: Entry) -> Result<usize, Fault>
-        ensures { Enters (of_draft meaning self.old) entry result (of_draft meaning self.new) }
+        ensures { Enters (of_draft B.meaning self.old) entry result (of_draft B.meaning self.new) }
     {
         self.book.enter(entry)
     }
 
     pub fn enter_switch(&mut self, switch: usize) -> Result<usize, Fault>
-        ensures { Enters (of_draft meaning self.old) (Switch switch) result (of_draft meaning self.new) }
+        ensures { Enters (of_draft B.meaning self.old) (Switch switch) result (of_draft B.meaning self.new) }
     {
         self.enter(Entry::Switch(switch))
     }
 
     pub fn enter_not(&mut self, guard: usize) -> Result<usize, Fault>
-        ensures { Enters (of_draft meaning self.old) (Not guard) result (of_draft meaning self.new) }
+        ensures { Enters (of_draft B.meaning self.old) (Not guard) result (of_draft B.meaning self.new) }
     {
         self.enter(Entry::Not(guard))
     }
 
     pub fn enter_both(&mut self, one: usize, other: usize) -> Result<usize, Fault>
-        ensures { Enters (of_draft meaning self.old) (Both one other) result (of_draft meaning self.new) }
+        ensures { Enters (of_draft B.meaning self.old) (Both one other) result (of_draft B.meaning self.new) }
     {
         self.enter(Entry::Both(one, other))
     }
 
     pub fn enter_either(&mut self, one: usize, other: usize) -> Result<usize, Fault>
-        ensures { Enters (of_draft meaning self.old) (Either one other) result (of_draft meaning self.new) }
+        ensures { Enters (of_draft B.meaning self.old) (Either one other) result (of_draft B.meaning self.new) }
     {
         self.enter(Entry::Either(one, other))
     }
 
     // The equation is active where the guard says yes.
     pub fn guard_equation(&mut self, equation: usize, guard: usize) -> Result<(), Fault>
-        ensures { Drafts (of_draft meaning self.old) (Equation equation guard) result (of_draft meaning self.new) }
+        ensures { Drafts (of_draft B.meaning self.old) (Equation equation guard) result (of_draft B.meaning self.new) }
     {
         if guard >= self.book.guards() {
             return Err(Fault::NoSuchGuard);
@@ -71,7 +71,7 @@ impl<B: GuardBook> Draft<B> {
 
     // The variable is active where the guard says yes.
     pub fn guard_variable(&mut self, variable: usize, guard: usize) -> Result<(), Fault>
-        ensures { Drafts (of_draft meaning self.old) (Variable variable guard) result (of_draft meaning self.new) }
+        ensures { Drafts (of_draft B.meaning self.old) (Variable variable guard) result (of_draft B.meaning self.new) }
     {
         if guard >= self.book.guards() {
             return Err(Fault::NoSuchGuard);
@@ -91,7 +91,7 @@ impl<B: GuardBook> Draft<B> {
         order: usize,
         guard: usize,
     ) -> Result<(), Fault>
-        ensures { Drafts (of_draft meaning self.old) (Place equation variable order guard) result (of_draft meaning self.new) }
+        ensures { Drafts (of_draft B.meaning self.old) (Place equation variable order guard) result (of_draft B.meaning self.new) }
     {
         if guard >= self.book.guards() {
             return Err(Fault::NoSuchGuard);
@@ -118,7 +118,7 @@ impl<B: GuardBook> Draft<B> {
 
     // Removes every occurrence with these three, whatever its order.
     pub fn strike(&mut self, equation: usize, variable: usize, guard: usize) -> Result<(), Fault>
-        ensures { Drafts (of_draft meaning self.old) (Strike equation variable guard) result (of_draft meaning self.new) }
+        ensures { Drafts (of_draft B.meaning self.old) (Strike equation variable guard) result (of_draft B.meaning self.new) }
     {
         if guard >= self.book.guards() {
             return Err(Fault::NoSuchGuard);
@@ -138,7 +138,7 @@ impl<B: GuardBook> Draft<B> {
 
     // Only the modes in which the guard says yes are allowed.
     pub fn assume(&mut self, guard: usize) -> Result<(), Fault>
-        ensures { Drafts (of_draft meaning self.old) (Assume guard) result (of_draft meaning self.new) }
+        ensures { Drafts (of_draft B.meaning self.old) (Assume guard) result (of_draft B.meaning self.new) }
     {
         if guard >= self.book.guards() {
             return Err(Fault::NoSuchGuard);
@@ -148,7 +148,7 @@ impl<B: GuardBook> Draft<B> {
     }
 
     pub fn issue(self) -> Issued<B>
-        ensures { of_issued meaning result ≡ of_draft meaning self }
+        ensures { of_issued B.meaning result ≡ of_draft B.meaning self }
     {
         let Draft { book, lines } = self;
         Issued { book, lines }
@@ -157,7 +157,7 @@ impl<B: GuardBook> Draft<B> {
 
 impl<B: GuardBook> Issued<B> {
     pub fn reopen(self) -> Draft<B>
-        ensures { of_draft meaning result ≡ of_issued meaning self }
+        ensures { of_draft B.meaning result ≡ of_issued B.meaning self }
     {
         let Issued { book, lines } = self;
         Draft { book, lines }

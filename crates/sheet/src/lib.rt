@@ -1,4 +1,6 @@
 // A sheet over any guard book: a draft, on which guards and occurrences are entered, and an issued sheet, which is read.
+#![tactic(auto)]
+
 pub use call::{Call, Change};
 use guards::GuardBook;
 use lines::Lines;

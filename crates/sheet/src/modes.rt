@@ -14,15 +14,15 @@ use sigma::Table;
 impl<B: GuardBook> Issued<B> {
     // How many modes there are.
     pub fn modes(&self) -> usize
-        ensures { result ≡ modes (of_issued meaning self.now).book }
+        ensures { result ≡ modes (of_issued B.meaning self.now).book }
     {
         self.book.modes()
     }
 
     // The signature of an allowed mode.
     pub fn signature(&self, mode: usize) -> Result<Table, Fault>
-        ensures given { shown result ≡ signed (of_issued meaning self.now) mode }
-        ensures past { (p : Past) → ledger_of p ≡ of_issued meaning self.now → shown result ≡ signed (ledger_of p) mode }
+        ensures given { shown result ≡ signed (of_issued B.meaning self.now) mode }
+        ensures past { (p : Past) → ledger_of p ≡ of_issued B.meaning self.now → shown result ≡ signed (ledger_of p) mode }
     {
         if mode >= self.modes() {
             return Err(Fault::NoSuchMode);

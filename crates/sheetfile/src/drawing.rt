@@ -34,7 +34,7 @@ fn note<T: Drop>(answer: Result<T, Fault>, record: usize) -> Result<(), FileFaul
 
 // Makes the drafting call that a record's letter names.
 pub fn draw<B: GuardBook>(draft: &mut Draft<B>, record: usize, part: &[u8]) -> Result<(), FileFault>
-    ensures { Draws (of_draft meaning draft.old) «record» part.now result (of_draft meaning draft.new) }
+    ensures { Draws (of_draft B.meaning draft.old) «record» part.now result (of_draft B.meaning draft.new) }
 {
     if !is_sound(part) {
         return Err(FileFault::from(Fault::BadRecord { record }));
@@ -59,7 +59,7 @@ pub fn draw<B: GuardBook>(draft: &mut Draft<B>, record: usize, part: &[u8]) -> R
 
 // Draws every record that the reader has still to hand out, up to the first that is refused.
 pub fn draw_all<B: GuardBook>(mut file: SheetFile, draft: &mut Draft<B>) -> Result<(), FileFault>
-    ensures { DrawsAll file.entry.bytes.now file.entry.place (of_draft meaning draft.old) result (of_draft meaning draft.new) }
+    ensures { DrawsAll file.entry.bytes.now file.entry.place (of_draft B.meaning draft.old) result (of_draft B.meaning draft.new) }
 {
     for _i in 0..file.records() {
         let (n, part) = file.step();

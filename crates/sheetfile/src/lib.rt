@@ -1,4 +1,6 @@
 // A reader over the bytes of a sheet file.
+#![tactic(auto)]
+
 ghost use Rattle.std.specs.Prelude.{◌≡◌, ℕ, true, List, length, Ok, Err, MatchResult};
 ghost use Rattle.sheetfile.specs.Format.{byte, pair, switches_of, equations_of, variables_of, count_of, sound};
 ghost use Rattle.sheetfile.specs.Opening.{Whole, Headed, Chain};

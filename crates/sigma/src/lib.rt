@@ -1,4 +1,6 @@
 // The signature of a mode as a table: the active equations and variables as words, which places are filled, and the orders there.
+#![tactic(auto)]
+
 ghost use Rattle.std.specs.Prelude.{◌≡◌, ℕ, ◌<◌, ◌&&◌, [], length, slice_index, slice_index_or};
 ghost use Rattle.sets.specs.Word.{member};
 

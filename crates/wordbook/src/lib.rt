@@ -1,4 +1,6 @@
 // A guard book that keeps each guard as one word: bit m of it is the answer in mode m.
+#![tactic(auto)]
+
 ghost use Rattle.std.specs.Prelude.{◌≡◌, ◌≤◌, length, slice_index};
 
 pub use calls::switch_words_stand;

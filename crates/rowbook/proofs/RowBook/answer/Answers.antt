@@ -16,8 +16,8 @@ worked-requires c = let n = count c.args.self.now in within c.args.self.now c.lo
 pub returns : goal.returns
 returns c = c.loop-i.invariant.1 c.args.guard (omega arith)
 
-pub offset-bounds-self-i : goal.offset-bounds-self-i
-offset-bounds-self-i c = let n = count c.args.self.now in omega arith
+pub offset_bounds-self-i : goal.offset_bounds-self-i
+offset_bounds-self-i c = let n = count c.args.self.now in omega arith
 
 pub bounds-self-i : goal.bounds-self-i
 bounds-self-i c = let n = count c.args.self.now in omega arith

@@ -9,7 +9,7 @@ returns-then-not-is-whole c = odd_length_refused c.args.bytes.now (sym c.if-not-
 pub returns-then-not-is-headed : goal.returns-then-not-is-headed
 returns-then-not-is-headed c = bad_header_refused c.args.bytes.now (sym c.if-not-is-whole.ensures) (sym c.if-not-is-headed.ensures)
 
-pub returns-in-err-place : goal.returns-in-err-place
-returns-in-err-place c =
-    let e = err_from_is_err_and c.from-residual.result c.from-residual.ensures.1 in
-    rw (e.1, e.2) (refused c.args.bytes.now _ c.in-err-place.ensures)
+pub returns-in_err-place : goal.returns-in_err-place
+returns-in_err-place c =
+    let e = err_from_is_err_and c.from_residual.result c.from_residual.ensures.1 in
+    rw (e.1, e.2) (refused c.args.bytes.now _ c.in_err-place.ensures)

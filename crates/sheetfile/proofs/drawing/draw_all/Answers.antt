@@ -11,16 +11,16 @@ returns-then-n-eq0 g c =
     let h = handing_same _ _ _ _ _ _ c.loop-i.invariant.0 c.step-n.ensures.handed in
     onward_end _ _ _ _ _ _ _ _ _ c.loop-i.invariant.1 h c.if-n-eq0.true
 
-pub returns-in-err-draw : goal.returns-in-err-draw
-returns-in-err-draw g c =
+pub returns-in_err-draw : goal.returns-in_err-draw
+returns-in_err-draw g c =
     let h = handing_same _ _ _ _ _ _ c.loop-i.invariant.0 c.step-n.ensures.handed in
-    let e = err_from_is_err_and c.from-residual.result c.from-residual.ensures.1 in
-    rw (e.1, e.2) (onward_stop _ _ _ _ _ _ _ _ _ _ c.loop-i.invariant.1 h c.if-n-eq0.false _ c.in-err-draw.ensures)
+    let e = err_from_is_err_and c.from_residual.result c.from_residual.ensures.1 in
+    rw (e.1, e.2) (onward_stop _ _ _ _ _ _ _ _ _ _ c.loop-i.invariant.1 h c.if-n-eq0.false _ c.in_err-draw.ensures)
 
 pub loop-i-preserved : goal.loop-i-preserved
 loop-i-preserved g c =
     let h = handing_same _ _ _ _ _ _ c.loop-i.invariant.0 c.step-n.ensures.handed in
-    (c.step-n.ensures.same ∙ c.loop-i.invariant.0, onward_more _ _ _ _ _ _ _ _ _ _ c.loop-i.invariant.1 h c.if-n-eq0.false c.in-ok-draw.ensures)
+    (c.step-n.ensures.same ∙ c.loop-i.invariant.0, onward_more _ _ _ _ _ _ _ _ _ _ c.loop-i.invariant.1 h c.if-n-eq0.false c.in_ok-draw.ensures)
 
 pub returns : goal.returns
 returns g c = onward_all _ _ _ _ _ _ c.loop-i.invariant.1 (omega arith)
