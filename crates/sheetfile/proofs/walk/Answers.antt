@@ -20,8 +20,8 @@ returns-then-next-records c =
     let e = c.number-next.ensures ∙ ap pair (lent _ c.loop-i.at) in
     sym (unique _ _ (beyond _ c.requires.whole c.requires.headed (by_record _ c.loop-i.invariant.0.named (omega arith) (omega arith) (omega arith))))
 
-pub returns-then-not-is-sound : goal.returns-then-not-is-sound
-returns-then-not-is-sound c =
+pub returns-then-not-is_sound : goal.returns-then-not-is_sound
+returns-then-not-is_sound c =
     let p = lent c.args.bytes.now c.loop-i.at in
     let e = c.number-next.ensures ∙ ap pair p in
     sym (unique _ _ (faulty _ c.requires.whole c.requires.headed (record {
@@ -29,7 +29,7 @@ returns-then-not-is-sound c =
       some = omega arith;
       within = omega arith;
       onward = omega arith;
-      silent = sym (ap sound p) ∙ sym c.if-not-is-sound.ensures.says;
+      silent = sym (ap sound p) ∙ sym c.if-not-is_sound.ensures.says;
     })))
 
 pub loop-i-preserved : goal.loop-i-preserved
@@ -38,7 +38,7 @@ loop-i-preserved c =
     let n = c.loop-i.at in
     let p = lent f n in (
       way_more f c.loop-i.-i n _ c.loop-i.invariant.0
-          (record { some = omega arith; within = omega arith; asks = sym (ap sound p) ∙ sym c.if-not-is-sound.ensures.says })
+          (record { some = omega arith; within = omega arith; asks = sym (ap sound p) ∙ sym c.if-not-is_sound.ensures.says })
           (c.number-next.ensures ∙ ap pair p),
       omega arith,
     )
