@@ -13,7 +13,7 @@ pub loop-i-init : goal.loop-i-init
 loop-i-init c = (way_none _ _ c.number-first.ensures, omega arith)
 
 pub returns-then-at-eq0 : goal.returns-then-at-eq0
-returns-then-at-eq0 c = opened _ _ c.requires.whole c.requires.headed c.number-first.ensures (way_zero _ c.loop-i.-i c.loop-i.at c.loop-i.invariant.0 (omega arith))
+returns-then-at-eq0 c = opened _ _ c.requires.whole c.requires.headed c.number-first.ensures (way_zero _ c.loop-i._i c.loop-i.at c.loop-i.invariant.0 (omega arith))
 
 pub returns-then-next-records : goal.returns-then-next-records
 returns-then-next-records c =
@@ -37,11 +37,11 @@ loop-i-preserved c =
     let f = c.args.bytes.now in
     let n = c.loop-i.at in
     let p = lent f n in (
-      way_more f c.loop-i.-i n _ c.loop-i.invariant.0
+      way_more f c.loop-i._i n _ c.loop-i.invariant.0
           (record { some = omega arith; within = omega arith; asks = sym (ap sound p) ∙ sym c.if-not-is_sound.ensures.says })
           (c.number-next.ensures ∙ ap pair p),
       omega arith,
     )
 
 pub returns : goal.returns
-returns c = sym (unique _ _ (never c.requires.whole c.requires.headed (way_all _ c.loop-i.-i c.loop-i.at c.loop-i.invariant.0 (omega arith))))
+returns c = sym (unique _ _ (never c.requires.whole c.requires.headed (way_all _ c.loop-i._i c.loop-i.at c.loop-i.invariant.0 (omega arith))))

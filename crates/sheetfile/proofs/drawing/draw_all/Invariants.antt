@@ -6,4 +6,4 @@ use Rattle.sheetfile.proofs.drawing.draw_all.Given as goal
 abbrev pub invariant-loop-i : goal.invariant-loop-i
 invariant-loop-i g l =
     (l.file.bytes.now ≡ l.initial.file.bytes.now) ×
-    Onward l.initial.file.bytes.now l.initial.file.place (of_draft g.B.GuardBook.meaning l.initial.draft) l.-i l.file.place (of_draft g.B.GuardBook.meaning l.draft)
+    Onward l.initial.file.bytes.now l.initial.file.place (of_draft g.B.GuardBook.meaning l.initial.draft) l._i l.file.place (of_draft g.B.GuardBook.meaning l.draft)
