@@ -243,6 +243,6 @@ fn a_refused_file_prints_its_refusal_alone(rt: HostRuntime) -> Result<(), Fail> 
     let one = [0, 2, b'O', 1, 1, 15, 0, 0];
     let mut out = Vec::new(rt.alloc());
     show(&mut out, &file_of(HEADER, one, [0, 0, b'V', 2, 0, 0, 0, 0]))?;
-    assert_eq!(rt; out.as_slice(), b"refused 10 record 2\n");
+    assert_eq!(rt; out.as_slice(), b"refused 10 record 2\n".as_slice());
     Ok(())
 }
