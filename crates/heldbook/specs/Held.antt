@@ -1,5 +1,5 @@
 -- What a held book means, by the book below. Assumes nothing.
-use Rattle.std.specs.Prelude.{ℕ, Bool, true, false, cond, List, [], ◌∷◌, ◌++◌, map, get_or, replicate, nat_lt, slice_index_or, slice_set}
+use Rattle.std.specs.Prelude.{ℕ, Bool, true, false, cond, List, [], ◌∷◌, ◌++◌, map, replicate, nat_lt, slice_index_or, slice_set}
 use Rattle.guards.specs.Meaning.{Meaning, Hold, free, off, on, seen, row, modes}
 use Rattle.heldbook.specs.declared.Held.{Held}
 
@@ -19,7 +19,7 @@ over on h = on
 
 -- a guard's answers in the modes below n, each taken in the mode with switch s put so
 abbrev pub held_row : ℕ → Hold → ℕ → List Bool → List Bool
-held_row s h n answers = row n (λ m. get_or answers (seen (alone s h) m) false)
+held_row s h n answers = row n (λ m. slice_index_or answers (seen (alone s h) m) false)
 
 abbrev pub holding : ℕ → Hold → Meaning → Meaning
 holding s h b = record {

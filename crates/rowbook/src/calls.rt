@@ -4,7 +4,7 @@ ghost use Rattle.guards.specs.Meaning.{says, modes, new_book};
 ghost use Rattle.guards.specs.Calls.{named};
 ghost use Rattle.rowbook.specs.Rows.{of_rows, says_by};
 ghost use Rattle.rowbook.specs.RowsLemmas as Rows;
-ghost use Rattle.std.proofs.Common.{rules, arith};
+ghost use Rattle.std.proofs.Common.{rules};
 
 use crate::RowBook;
 use faults::Fault;
@@ -60,7 +60,7 @@ impl GuardBook for RowBook {
 
     ghost most = { 16 };
 
-    ghost most_bound = { first_of (Prim.search rules, Prim.grind (arith, Self.row.coded.inj)) };
+    ghost most_bound = { Prim.search rules };
 
     ghost sound = { λ x. Rows.sound x };
 

@@ -4,7 +4,7 @@ ghost use Rattle.guards.specs.Meaning.{says, modes, new_book};
 ghost use Rattle.guards.specs.Calls.{named};
 ghost use Rattle.wordbook.specs.Words.{of_words, entry_word, SwitchWordsRule};
 ghost use Rattle.wordbook.specs.WordsLemmas as Words;
-ghost use Rattle.std.proofs.Common.{rules, arith};
+ghost use Rattle.std.proofs.Common.{rules};
 
 use crate::WordBook;
 use faults::Fault;
@@ -72,7 +72,7 @@ impl GuardBook for WordBook {
 
     ghost most = { 6 };
 
-    ghost most_bound = { first_of (Prim.search rules, Prim.grind (arith, Self.row.coded.inj)) };
+    ghost most_bound = { Prim.search rules };
 
     ghost sound = { λ x. Words.sound x };
 
