@@ -12,7 +12,8 @@ FACTS = {
     "Hoist-opens": "HoistOpens",
 }
 
-# laws named by their left sides, whose words alone would be the names of definitions
+# laws named by their left sides: underscores alone would make the names of the operations bit_and and bit_or of two
+# of them, and the other three follow suit
 SIDES = {
     "and-digit": "digit-bit_and",
     "or-digit": "digit-bit_or",
