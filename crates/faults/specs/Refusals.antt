@@ -1,5 +1,6 @@
 -- What each refusal says: its number, the layer that declines, and its details in order. Assumes nothing.
-use Rattle.std.specs.Prelude.{◌≡◌, ℕ, Bool, cond, ◌||◌, List, [], ◌∷◌, Ok, Err, codes, Result, ◌==◌, slice_index}
+use Rattle.std.specs.Prelude.{◌≡◌, ℕ, Bool, if◌then◌else◌, ◌||◌, List, [], ◌∷◌, ◌++◌, Some, None, Ok, Err, codes, Option, Result, ◌==◌, slice_index}
+use Rattle.std.specs.Fmt.{decimal}
 use Rattle.faults.specs.declared.Layer.{Layer}
 use Rattle.faults.specs.declared.Layer.TheVariants.{File, Check, Book, Sheet}
 use Rattle.faults.specs.declared.Fault.{Fault}
@@ -33,9 +34,9 @@ refusal ModeNotAllowed = from_layer Sheet 15 []
 refusal (Uneven es vs) = from_layer Sheet 16 (es ∷ vs ∷ [])
 refusal (Singular es vs) = from_layer Sheet 17 (es ∷ vs ∷ [])
 
--- the record that a refusal names, 0 where it names none
-abbrev pub record_named : Refusal → ℕ
-record_named r = cond (r.number == 3 || r.number == 4) (slice_index r.values 0) 0
+-- the record that a refusal names, none where it names none
+abbrev pub record_named : Refusal → Option ℕ
+record_named r = if r.number == 3 || r.number == 4 then Some (slice_index r.values 0) else None
 
 -- an answer with its fault told by what it says
 abbrev pub told : {A : Type 0} → Result A Fault → Result A Refusal
@@ -44,7 +45,7 @@ told (Err f) = Err (refusal f)
 
 -- what a check call answers: 0, or the bare number of the refusal
 abbrev pub bare : Bool → Fault → ℕ
-bare declined f = cond declined (refusal f).number 0
+bare declined f = if declined then (refusal f).number else 0
 
 -- no two faults say the same
 abbrev pub ToldApart : Type 0
@@ -56,3 +57,7 @@ layer_name File = codes "file"
 layer_name Check = codes "check"
 layer_name Book = codes "book"
 layer_name Sheet = codes "sheet"
+
+-- a refusal as it is printed
+abbrev pub refusal_text : Refusal → List ℕ
+refusal_text r = codes "refused " ++ decimal r.number ++ codes " by the " ++ layer_name r.layer

@@ -2,12 +2,13 @@
 #![tactic(auto)]
 
 ghost use Rattle.std.specs.Prelude.{◌≡◌, Some};
-ghost use Rattle.faults.specs.Refusals.{refusal, layer_name, ToldApart, record_named};
+ghost use Rattle.faults.specs.Refusals.{refusal, layer_name, refusal_text, ToldApart, record_named};
 
+use std::error::Error;
 use std::fmt;
 
 // who declines
-#[derive(Clone, Copy, Debug)]
+#[derive(Clone, Copy, Debug, PartialEq, Eq)]
 pub enum Layer {
     File,
     Check,
@@ -19,17 +20,16 @@ impl fmt::Display for Layer {
     ghost output = { λ l. Some (layer_name l) };
 
     fn fmt<W: fmt::Write>(&self, f: &mut fmt::Formatter<W>) -> fmt::Result {
-        let name = match self {
+        f.write_str(match self {
             Layer::File => "file",
             Layer::Check => "check",
             Layer::Book => "book",
             Layer::Sheet => "sheet",
-        };
-        write!(f, "{name}")
+        })
     }
 }
 
-#[derive(Clone, Copy, Debug)]
+#[derive(Clone, Copy, Debug, PartialEq, Eq)]
 pub enum Fault {
     // the file's length is below 8, above 8,192 or no multiple of 8
     BadLength,
@@ -97,28 +97,49 @@ impl Fault {
     pub fn layer(&self) -> Layer
         ensures { result ≡ (refusal self.now).layer }
     {
-        match self.number() {
-            1..=5 => Layer::File,
-            6 => Layer::Check,
-            7..=9 | 14 => Layer::Book,
-            _ => Layer::Sheet,
+        match self {
+            Fault::BadLength
+            | Fault::BadHeader
+            | Fault::BadLink { .. }
+            | Fault::BadRecord { .. }
+            | Fault::EndlessChain => Layer::File,
+            Fault::TooLarge => Layer::Check,
+            Fault::NoSuchSwitch | Fault::NoSuchGuard | Fault::GuardsFull | Fault::NoSuchMode => {
+                Layer::Book
+            }
+            Fault::NoSuchPlace
+            | Fault::OrderTooHigh
+            | Fault::OccurrencesFull
+            | Fault::NothingToStrike
+            | Fault::ModeNotAllowed
+            | Fault::Uneven { .. }
+            | Fault::Singular { .. } => Layer::Sheet,
         }
     }
 
-    // The record of the file that the refusal names, 0 where it names none.
-    pub fn record(&self) -> usize
+    // The record of the file that the refusal names, if it names one.
+    pub fn record(&self) -> Option<usize>
         ensures { result ≡ record_named (refusal self.now) }
     {
         match self {
-            Fault::BadLink { record } | Fault::BadRecord { record } => *record,
-            _ => 0,
+            Fault::BadLink { record } | Fault::BadRecord { record } => Some(*record),
+            _ => None,
         }
     }
 }
 
-// No two faults say the same, so an answer is pinned by what it is told to say.
-pub fn told_apart_stands() -> u8
-    ensures { ToldApart }
-{
-    0
+impl fmt::Display for Fault {
+    ghost output = { λ f. Some (refusal_text (refusal f)) };
+
+    fn fmt<W: fmt::Write>(&self, f: &mut fmt::Formatter<W>) -> fmt::Result {
+        let (number, layer) = (self.number(), self.layer());
+        write!(f, "refused {number} by the {layer}")
+    }
 }
+
+impl Error for Fault {}
+
+// No two faults say the same, so an answer is pinned by what it is told to say.
+pub fn told_apart_stands()
+    ensures { ToldApart }
+{}
