@@ -1,5 +1,5 @@
 -- The calls of a guard book: what each answers, and what the book means after it. Assumes nothing.
-use Rattle.std.specs.Prelude.{◌≡◌, ℕ, Bool, cond, not, ◌&&◌, ◌||◌, length, Ok, Err, Result, nat_lt}
+use Rattle.std.specs.Prelude.{◌≡◌, ℕ, Bool, if◌then◌else◌, not, ◌&&◌, ◌||◌, length, Ok, Err, Result, nat_lt}
 use Rattle.faults.specs.declared.Fault.{Fault}
 use Rattle.faults.specs.declared.Fault.TheVariants.{NoSuchSwitch, NoSuchGuard, GuardsFull, NoSuchMode}
 use Rattle.faults.specs.Refusals.{Refusal, refusal, told}
@@ -30,7 +30,7 @@ missing (Either g h) = NoSuchGuard
 
 -- goes on where a test passes, and declines otherwise
 abbrev pub provided : {A : Type 0} → Bool → Fault → Result A Refusal → Result A Refusal
-provided test f next = cond test next (Err (refusal f))
+provided test f next = if test then next else Err (refusal f)
 
 -- what an entry answers where there are k switches and n guards: the next number, while fewer than 64 stand
 abbrev pub admitted : ℕ → ℕ → Entry → Result ℕ Refusal
@@ -56,3 +56,7 @@ pub record Entered (b : Meaning) (e : Entry) (r : Result ℕ Fault) (x : Meaning
 -- what a question answers
 abbrev pub asked : Meaning → ℕ → ℕ → Result Bool Refusal
 asked b g m = provided (nat_lt g (length b.guards)) NoSuchGuard (provided (nat_lt m (modes b)) NoSuchMode (Ok (says b g m)))
+
+-- whether the guard and the mode of a question stand
+abbrev pub found : Meaning → ℕ → ℕ → Result (Unit {0}) Refusal
+found b g m = provided (nat_lt g (length b.guards)) NoSuchGuard (provided (nat_lt m (modes b)) NoSuchMode (Ok tt))

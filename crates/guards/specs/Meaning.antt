@@ -1,5 +1,5 @@
 -- What a guard book means. Assumes nothing.
-use Rattle.std.specs.Prelude.{◌≡◌, ℕ, ◌+◌, ◌*◌, ◌/◌, ◌%◌, ◌^◌, ◌<◌, ◌≤◌, Bool, true, false, cond, List, [], ◌∷◌, ◌++◌, map, length, replicate, nat_lt, slice_index_or}
+use Rattle.std.specs.Prelude.{◌≡◌, ℕ, ◌+◌, ◌*◌, ◌/◌, ◌%◌, ◌^◌, ◌<◌, ◌≤◌, Bool, true, false, if◌then◌else◌, List, [], ◌∷◌, ◌++◌, map, length, replicate, nat_lt, slice_index_or}
 use Rattle.std.specs.List.{range_with_len}
 use Rattle.sets.specs.Word.{bit}
 
@@ -48,9 +48,13 @@ with_guard b f = record { switches = b.switches; holds = b.holds; guards = b.gua
 abbrev pub fresh : ℕ → Meaning
 fresh k = record { switches = k; holds = replicate k free; guards = row (2 ^ k) (λ _. true) ∷ [] }
 
+-- how many switches a making with the number k gives, of a kind that takes at most `most`
+abbrev pub switches_made : ℕ → ℕ → ℕ
+switches_made most k = if nat_lt most k then 0 else k
+
 -- a new book of a kind that takes at most `most` switches
 abbrev pub new_book : ℕ → ℕ → Meaning
-new_book most k = fresh (cond (nat_lt most k) 0 k)
+new_book most k = fresh (switches_made most k)
 
 -- what every kind owes
 pub record Sound (most : ℕ) (b : Meaning) : Type 0 where

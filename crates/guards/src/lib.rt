@@ -5,8 +5,8 @@ ghost use Rattle.std.specs.Prelude.{◌≡◌, ℕ, ◌≤◌, length, nat_lt};
 ghost use Rattle.faults.specs.declared.Fault.TheVariants.{TooLarge};
 ghost use Rattle.faults.specs.Refusals.{told, bare};
 ghost use Rattle.guards.specs.declared.entry.Entry.TheVariants.{Switch, Not, Both, Either};
-ghost use Rattle.guards.specs.Meaning.{Meaning, Sound, modes, SeenBySwitch};
-ghost use Rattle.guards.specs.Calls.{Entered, admitted, asked};
+ghost use Rattle.guards.specs.Meaning.{Meaning, Sound, modes, switches_made, SeenBySwitch};
+ghost use Rattle.guards.specs.Calls.{Entered, answer, found, asked};
 
 pub use entry::Entry;
 use faults::Fault;
@@ -20,11 +20,7 @@ pub trait GuardBook {
     // the greatest number of switches of this kind of book
     const MOST_SWITCHES: usize;
 
-    // that number for clauses, which cannot name a trait's constant; `limit` answers it
-    ghost most: { ℕ };
-
-    fn limit() -> usize
-        ensures { result ≡ most };
+    ghost MOST_SWITCHES: { ℕ };
 
     fn switches(&self) -> usize
         ensures { result ≡ (meaning self.now).switches };
@@ -71,54 +67,64 @@ pub trait GuardBook {
         1 << self.switches()
     }
 
+    // The number that the next guard takes, or why the entry is refused.
+    fn admit(&self, entry: Entry) -> Result<usize, Fault>
+        ensures { told result ≡ answer (meaning self.now) entry }
+    {
+        let (switches, guards) = (self.switches(), self.guards());
+        match entry {
+            Entry::Switch(s) if s >= switches => Err(Fault::NoSuchSwitch),
+            Entry::Not(g) if g >= guards => Err(Fault::NoSuchGuard),
+            Entry::Both(g, h) | Entry::Either(g, h) if g >= guards || h >= guards => {
+                Err(Fault::NoSuchGuard)
+            }
+            _ if guards < 64 => Ok(guards),
+            _ => Err(Fault::GuardsFull),
+        }
+    }
+
+    // Nothing, or why the question is refused.
+    fn admit_question(&self, guard: usize, mode: usize) -> Result<(), Fault>
+        ensures { told result ≡ found (meaning self.now) guard mode }
+    {
+        if guard >= self.guards() {
+            return Err(Fault::NoSuchGuard);
+        }
+        if mode >= self.modes() {
+            return Err(Fault::NoSuchMode);
+        }
+        Ok(())
+    }
+
     // 0, or the number of the refusal where a book of this kind cannot have so many switches.
     fn check_switches(switches: usize) -> u8
-        ensures { result ≡ bare (nat_lt most switches) TooLarge }
+        ensures { result ≡ bare (nat_lt MOST_SWITCHES switches) TooLarge }
     {
-        if switches > Self::limit() {
+        if switches > Self::MOST_SWITCHES {
             Fault::TooLarge.number()
         } else {
             0
         }
     }
 
+    // How many switches a book made with this number has: none where the check refuses it.
+    fn switches_made(switches: usize) -> usize
+        ensures { result ≡ switches_made MOST_SWITCHES switches }
+    {
+        if Self::check_switches(switches) == 0 {
+            switches
+        } else {
+            0
+        }
+    }
+
     // no kind states more than 16
-    ghost most_bound: { most ≤ 16 };
+    ghost most_bound: { MOST_SWITCHES ≤ 16 };
 
-    ghost sound: { (x : Self) → Sound most (meaning x) };
-}
-
-// The number of the next guard, where `switches` and `guards` stand, or why the entry is refused.
-pub fn admit(switches: usize, guards: usize, entry: Entry) -> Result<usize, Fault>
-    ensures { told result ≡ admitted switches guards entry }
-{
-    match entry {
-        Entry::Switch(s) => {
-            if s >= switches {
-                return Err(Fault::NoSuchSwitch);
-            }
-        }
-        Entry::Not(g) => {
-            if g >= guards {
-                return Err(Fault::NoSuchGuard);
-            }
-        }
-        Entry::Both(g, h) | Entry::Either(g, h) => {
-            if g >= guards || h >= guards {
-                return Err(Fault::NoSuchGuard);
-            }
-        }
-    }
-    if guards < 64 {
-        Ok(guards)
-    } else {
-        Err(Fault::GuardsFull)
-    }
+    ghost sound: { (x : Self) → Sound MOST_SWITCHES (meaning x) };
 }
 
 // The seen mode is what it is switch by switch: as held where held, and as in the mode where free.
-pub fn seen_by_switch_stands() -> u8
+pub fn seen_by_switch_stands()
     ensures { SeenBySwitch }
-{
-    0
-}
+{}
