@@ -1,25 +1,61 @@
 // A sheet over any guard book: a draft, on which guards and occurrences are entered, and an issued sheet, which is read.
 #![tactic(auto)]
 
+ghost use Rattle.std.specs.Prelude.{◌≡◌};
+ghost use Rattle.faults.specs.Refusals.{bare};
+ghost use Rattle.faults.specs.declared.Fault.TheVariants.{TooLarge};
+ghost use Rattle.sheet.specs.Calls.{too_many};
+
 pub use call::{Call, Change};
+use faults::Fault;
 use guards::GuardBook;
 use lines::Lines;
-pub use striking::check_counts;
+use std::marker::Model;
 
 pub mod call;
 mod drafting;
 mod lines;
 mod modes;
-mod striking;
 
+// seen as its ledger
 #[derive(Drop)]
 pub struct Draft<B: GuardBook> {
     book: B,
     lines: Lines,
 }
 
+impl<B: GuardBook> Model for Draft<B> {
+    ghost use Rattle.sheet.specs.Ledger.{Ledger};
+    ghost use Rattle.sheet.specs.Lines.{of_lines};
+
+    ghost Value = { Ledger };
+
+    ghost view = { λ s. of_lines (B.GuardBook.meaning s.book) s.lines };
+}
+
+// seen as its ledger
 #[derive(Drop)]
 pub struct Issued<B: GuardBook> {
     book: B,
     lines: Lines,
+}
+
+impl<B: GuardBook> Model for Issued<B> {
+    ghost use Rattle.sheet.specs.Ledger.{Ledger};
+    ghost use Rattle.sheet.specs.Lines.{of_lines};
+
+    ghost Value = { Ledger };
+
+    ghost view = { λ s. of_lines (B.GuardBook.meaning s.book) s.lines };
+}
+
+// 0, or the number of the refusal where a sheet cannot have so many equations or variables.
+pub fn check_counts(equations: usize, variables: usize) -> u8
+    ensures { result ≡ bare (too_many equations variables) TooLarge }
+{
+    if equations > 64 || variables > 64 {
+        Fault::TooLarge.number()
+    } else {
+        0
+    }
 }

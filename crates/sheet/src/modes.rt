@@ -1,7 +1,6 @@
 // What an issued sheet answers about a mode.
 ghost use Rattle.std.specs.Prelude.{◌≡◌};
 ghost use Rattle.guards.specs.Meaning.{modes};
-ghost use Rattle.sheet.specs.Ledger.{of_issued};
 ghost use Rattle.sheet.specs.Past.{Past, ledger_of};
 ghost use Rattle.sheet.specs.Signatures.{signed, shown};
 
@@ -14,15 +13,15 @@ use sigma::Table;
 impl<B: GuardBook> Issued<B> {
     // How many modes there are.
     pub fn modes(&self) -> usize
-        ensures { result ≡ modes (of_issued B.meaning self.now).book }
+        ensures { result ≡ modes self.now.book }
     {
         self.book.modes()
     }
 
     // The signature of an allowed mode.
     pub fn signature(&self, mode: usize) -> Result<Table, Fault>
-        ensures given { shown result ≡ signed (of_issued B.meaning self.now) mode }
-        ensures past { (p : Past) → ledger_of p ≡ of_issued B.meaning self.now → shown result ≡ signed (ledger_of p) mode }
+        ensures given { shown result ≡ signed self.now mode }
+        ensures past { (p : Past) → ledger_of p ≡ self.now → shown result ≡ signed (ledger_of p) mode }
     {
         if mode >= self.modes() {
             return Err(Fault::NoSuchMode);
@@ -33,9 +32,9 @@ impl<B: GuardBook> Issued<B> {
         }
         Ok(signature(
             &self.book,
-            &lines.equation_guards[0..lines.equations],
-            &lines.variable_guards[0..lines.variables],
-            &lines.occurrences[0..lines.count],
+            &lines.equations,
+            &lines.variables,
+            &lines.occurrences,
             mode,
         ))
     }
