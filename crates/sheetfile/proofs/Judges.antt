@@ -7,7 +7,8 @@ use Rattle.faults.specs.declared.Fault.TheVariants.{BadLength, BadHeader, BadLin
 use Rattle.faults.specs.Refusals.{told}
 use Rattle.sheetfile.specs.Format.{first_of, count_of, part_of, next_of, sound}
 use Rattle.sheetfile.specs.Opening.{Whole, Headed, Links, Chain, done, link, Named, first, Beyond, by_header, by_record, Faulty, Never, Judged, chained, odd_length, bad_header, beyond, faulty, never}
-use Rattle.sheetfile.specs.Judging.{is_whole, is_headed, preceded, walked, opening, Opened, Refused, OneAnswer}
+use Rattle.sheetfile.specs.Judging.{is_whole, is_headed, preceded, walked, opening, Refused, OneAnswer}
+use Rattle.sheetfile.specs.Reader.{numbers_of, rest_from, Starts}
 use Rattle.sheetfile.proofs.Walks.{Way, way_none, way_more, way_of, way_all, way_low, stops_within, chain_low, walked_chain, walked_never, walked_along, bounded}
 
 refuted : (b : Bool) → (b ≡ true → ⊥) → b ≡ false
@@ -99,14 +100,23 @@ unique f r (faulty n w h b) =
     (λ j. cond-false _ _ _ (ne_eqb n 0 (λ e. omega (arith, b.some))) ∙ cond-false _ _ _ (le-ltb (count_of f) (next_of f n) b.onward) ∙ cond-false _ _ _ b.silent)
 unique f r (never w h b) = from_walk f (Err EndlessChain) w h (b (first_of f) first).within (walked_never f b (suc (count_of f)) (first_of f) first)
 
+-- the numbers along a chain are those that are still to come
+pub rest_is : (f : List ℕ) (p : ℕ) (ns : List ℕ) → Chain f p ns → rest_from f p ≡ ns
+rest_is f p ns c = ap numbers_of (walked_chain f (suc (count_of f)) p ns c (omega (arith, bounded f p ns c)))
+
 -- a walk that chained to zero, for a reader at its first number
-pub opened : (f : List ℕ) (p : ℕ) → Whole f → Headed f → p ≡ first_of f → ((ns : List ℕ) × Chain f (first_of f) ns) → Opened f p
-opened f p w h e o = record {
-  numbers = o.0;
-  answer = sym (unique f (Ok o.0) (chained o.0 w h o.1));
-  right = chained o.0 w h o.1;
-  chain = subst (λ x. Chain f x o.0) (sym e) o.1;
-}
+pub starts : (f : List ℕ) (p : ℕ) → Whole f → Headed f → p ≡ first_of f → ((ns : List ℕ) × Chain f (first_of f) ns) → Starts f p
+starts f p w h e o =
+    let c : Chain f p o.0 = subst (λ x. Chain f x o.0) (sym e) o.1 in
+    let r = rest_is f p o.0 c in
+    record {
+      opens = record {
+        same = refl;
+        answer = sym (unique f (Ok o.0) (chained o.0 w h o.1)) ∙ ap Ok (sym r);
+        right = subst (λ ns. Judged f (Ok ns)) (sym r) (chained o.0 w h o.1);
+      };
+      chain = subst (Chain f p) (sym r) c;
+    }
 
 pub one_answer : OneAnswer
 one_answer f = (judged f, unique f)

@@ -1,16 +1,33 @@
 -- One step along a chain. Assumes nothing.
-use Rattle.std.proofs.Common.{◌≡◌, ℕ, ◌+◌, ◌-◌, ◌*◌, ◌≤◌, List, [], take, drop, sym, refl, ap, subst, arith}
+use Rattle.std.proofs.Common.{◌≡◌, ℕ, ◌+◌, ◌-◌, ◌*◌, ◌≤◌, List, [], ◌∷◌, take, drop, sym, ap, ◌∙◌, subst, arith}
 use Rattle.sheetfile.specs.Format.{count_of, part_of, next_of}
 use Rattle.sheetfile.specs.Opening.{Chain, done, link}
-use Rattle.sheetfile.specs.Stepping.{Hands}
+use Rattle.sheetfile.specs.Reader.{rest_from}
+use Rattle.sheetfile.proofs.Judges.{rest_is}
 
-pub step_end : (f : List ℕ) (p : ℕ) (ns : List ℕ) → Chain f p ns → (1 ≤ p → p ≤ count_of f → ⊥) → Hands f ns 0 [] p
-step_end f p ns done bad = (refl, refl, refl)
-step_end f p ns (link n ms l c) bad = absurd (bad l.some l.within)
+-- nothing is to come from zero
+pub rest_none : (f : List ℕ) (p : ℕ) → p ≡ 0 → rest_from f p ≡ []
+rest_none f p e = rest_is f p [] (subst (λ n. Chain f n []) (sym e) done)
 
-pub step_more : (f : List ℕ) (p : ℕ) (ns part : List ℕ) (q : ℕ) → Chain f p ns → 1 ≤ p → part ≡ part_of f p → q ≡ next_of f p → Hands f ns p part q
-step_more f p ns part q done some e h = absurd (omega arith)
-step_more f p ns part q (link n ms l c) some e h = (refl, e, subst (λ x. Chain f x ms) (sym h) c)
+-- from the number n of a record, that record comes next, and then what comes from q
+pub record Steps (f : List ℕ) (n q : ℕ) : Type 0 where
+  pub within : n ≤ count_of f
+  pub first : rest_from f n ≡ n ∷ rest_from f q
+  pub chain : Chain f q (rest_from f q)
+
+along : (f : List ℕ) (n q : ℕ) (ns : List ℕ) → Chain f n ns → 1 ≤ n → q ≡ next_of f n → Steps f n q
+along f n q ns done some e = absurd (omega arith)
+along f n q ns (link m ms l k) some e =
+    let k' : Chain f q ms = subst (λ x. Chain f x ms) (sym e) k in
+    let r = rest_is f q ms k' in
+    record {
+      within = l.within;
+      first = rest_is f m (m ∷ ms) (link m ms l k) ∙ ap (λ xs. m ∷ xs) (sym r);
+      chain = subst (Chain f q) (sym r) k';
+    }
+
+pub steps : (f : List ℕ) (n q : ℕ) → Chain f n (rest_from f n) → 1 ≤ n → q ≡ next_of f n → Steps f n q
+steps f n q c = along f n q (rest_from f n) c
 
 -- the part of a file that the code lends
 pub lent : (f : List ℕ) (n : ℕ) → take ((8 * n + 8) - 8 * n) (drop (8 * n) f) ≡ part_of f n

@@ -1,5 +1,6 @@
 -- What drawing a record answers, and the ledger after it. Assumes nothing.
-use Rattle.std.specs.Prelude.{◌≡◌, ℕ, List, [], ◌∷◌, Some, None, Ok, Err, Option, Result}
+use Rattle.std.specs.Prelude.{◌≡◌, ℕ, List, [], ◌∷◌, ◌++◌, Some, None, Ok, Err, Option, Result, codes, unwrap_or}
+use Rattle.std.specs.Fmt.{decimal}
 use Rattle.faults.specs.declared.Fault.{Fault}
 use Rattle.faults.specs.declared.Fault.TheVariants.{BadRecord}
 use Rattle.faults.specs.Refusals.{Refusal, refusal, record_named}
@@ -8,15 +9,19 @@ use Rattle.sheet.specs.Ledger.{Ledger}
 use Rattle.sheet.specs.Calls.{reply, step}
 use Rattle.sheetfile.specs.declared.fault.FileFault.{FileFault}
 use Rattle.sheetfile.specs.Format.{call_of, part_of}
-use Rattle.sheetfile.specs.Opening.{Chain}
+use Rattle.sheetfile.specs.Reader.{Reader}
 
 -- what a refusal in a file says: the refusal, and the record where it was met
 pub record Meeting : Type 0 where
   pub said : Refusal
-  pub at : ℕ
+  pub at : Option ℕ
 
-abbrev pub met_at : ℕ → Refusal → Meeting
+abbrev pub met_at : Option ℕ → Refusal → Meeting
 met_at n f = record { said = f; at = n }
+
+-- a meeting as it is printed, with 0 where no record is named
+abbrev pub meeting_text : Meeting → List ℕ
+meeting_text m = codes "refused " ++ decimal m.said.number ++ codes " record " ++ decimal (unwrap_or m.at 0)
 
 abbrev pub meeting : FileFault → Meeting
 meeting f = met_at f.«record» (refusal f.fault)
@@ -32,7 +37,7 @@ told_met (Err f) = Err (meeting f)
 -- an answer of the sheet, and the record where a refusal was met
 abbrev pub located : {A : Type 0} → ℕ → Result A Refusal → Result (Unit {0}) Meeting
 located n (Ok a) = Ok tt
-located n (Err f) = Err (met_at n f)
+located n (Err f) = Err (met_at (Some n) f)
 
 -- a record that asks for no call is refused as opening would, and draws nothing
 abbrev pub drawn : Ledger → ℕ → Option Change → Result (Unit {0}) Meeting
@@ -65,6 +70,6 @@ unfoldable pub all_drawn : Ledger → List ℕ → List ℕ → Drawing
 all_drawn l f [] = record { answer = Ok tt; left = l }
 all_drawn l f (n ∷ ns) = onward (drawing l n (call_of (part_of f n))) (all_drawn (drawn_ledger l (call_of (part_of f n))) f ns)
 
--- drawing all that a reader of f has to come from number p on, where it chains to zero, answers r and leaves the ledger x
-abbrev pub DrawsAll : List ℕ → ℕ → Ledger → Result (Unit {0}) FileFault → Ledger → Type 0
-DrawsAll f p l r x = (ns : List ℕ) → Chain f p ns → record { answer = told_met r; left = x } ≡ all_drawn l f ns
+-- drawing all that a reader has to come answers r and leaves the ledger x
+abbrev pub DrawsAll : Reader → Ledger → Result (Unit {0}) FileFault → Ledger → Type 0
+DrawsAll file l r x = record { answer = told_met r; left = x } ≡ all_drawn l file.file file.rest

@@ -4,7 +4,7 @@ use Rattle.faults.specs.declared.Fault.{Fault}
 use Rattle.faults.specs.declared.Fault.TheVariants.{BadLength, BadHeader, BadLink, BadRecord, EndlessChain}
 use Rattle.faults.specs.Refusals.{refusal, told}
 use Rattle.sheetfile.specs.Format.{byte, first_of, switches_of, equations_of, variables_of, count_of, part_of, next_of, sound}
-use Rattle.sheetfile.specs.Opening.{Chain, Judged}
+use Rattle.sheetfile.specs.Opening.{Judged}
 
 abbrev pub is_whole : List ℕ → Bool
 is_whole f = nat_le 8 (length f) && (nat_le (length f) 8192 && length f % 8 == 0)
@@ -34,13 +34,6 @@ opening f =
 -- every file has an answer, the one worked out, and no other
 abbrev pub OneAnswer : Type 0
 OneAnswer = (f : List ℕ) → Judged f (opening f) × ((r : Result (List ℕ) Fault) → Judged f r → r ≡ opening f)
-
--- the file opens, and a reader at number p has all the records of its chain to come
-pub record Opened (f : List ℕ) (p : ℕ) : Type 0 where
-  pub numbers : List ℕ
-  pub answer : opening f ≡ Ok numbers
-  pub right : Judged f (Ok numbers)
-  pub chain : Chain f p numbers
 
 -- the file is refused
 pub record Refused (f : List ℕ) (e : Fault) : Type 0 where

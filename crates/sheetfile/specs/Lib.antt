@@ -1,6 +1,6 @@
 pub mod Format
 pub mod Opening
 pub mod Judging
-pub mod Stepping
+pub mod Reader
 pub mod Letters
 pub mod Drawn

@@ -1,9 +1,9 @@
 use Rattle.std.proofs.Common.{◌≡◌}
-use Rattle.sheet.specs.Ledger.{of_draft}
-use Rattle.sheetfile.proofs.Draws.{Onward}
+use Rattle.sheetfile.specs.Drawn.{all_drawn}
 use Rattle.sheetfile.proofs.drawing.draw_all.Given as goal
 
-abbrev pub invariant-loop-i : goal.invariant-loop-i
-invariant-loop-i g l =
-    (l.file.bytes.now ≡ l.initial.file.bytes.now) ×
-    Onward l.initial.file.bytes.now l.initial.file.place (of_draft g.B.GuardBook.meaning l.initial.draft) l._i l.file.place (of_draft g.B.GuardBook.meaning l.draft)
+abbrev pub invariant-loop-number : goal.invariant-loop-number
+invariant-loop-number g l = record {
+  same : l.number-iterator.file ≡ l.fn.file.file;
+  left : all_drawn l.draft l.fn.file.file l.number-iterator.rest ≡ all_drawn l.fn.draft l.fn.file.file l.fn.file.rest;
+}
