@@ -2,7 +2,7 @@
 #![tactic(auto)]
 
 ghost use Rattle.std.specs.Prelude.{◌≡◌, Some};
-ghost use Rattle.faults.specs.Refusals.{refusal, layer_name, refusal_text, ToldApart, record_named};
+ghost use Rattle.faults.specs.Refusals.{refusal, bare, layer_name, refusal_text, ToldApart, record_named};
 
 use std::error::Error;
 use std::fmt;
@@ -91,6 +91,13 @@ impl Fault {
             Fault::Uneven { .. } => 16,
             Fault::Singular { .. } => 17,
         }
+    }
+
+    // What a check call answers: the bare number where it declines, and 0 otherwise.
+    pub fn number_if(&self, declined: bool) -> u8
+        ensures { result ≡ bare declined self.now }
+    {
+        if declined { self.number() } else { 0 }
     }
 
     // The layer that declines.

@@ -100,11 +100,7 @@ pub trait GuardBook {
     fn check_switches(switches: usize) -> u8
         ensures { result ≡ bare (nat_lt MOST_SWITCHES switches) TooLarge }
     {
-        if switches > Self::MOST_SWITCHES {
-            Fault::TooLarge.number()
-        } else {
-            0
-        }
+        Fault::TooLarge.number_if(switches > Self::MOST_SWITCHES)
     }
 
     // How many switches a book made with this number has: none where the check refuses it.

@@ -32,10 +32,8 @@ fn print_name<W: Write>(out: &mut W, letter: char, n: usize) -> io::Result<()> {
 
 fn print_header<W: Write>(out: &mut W, variables: u64) -> io::Result<()> {
     write!(out, "     ")?;
-    for j in 0..64 {
-        if has(variables, j) {
-            print_name(out, 'v', j)?;
-        }
+    for j in (0..64).filter(|&j| has(variables, j)) {
+        print_name(out, 'v', j)?;
     }
     writeln!(out, "")
 }
@@ -43,12 +41,10 @@ fn print_header<W: Write>(out: &mut W, variables: u64) -> io::Result<()> {
 // The orders of an equation, a dot where a place is empty.
 fn print_row<W: Write>(out: &mut W, table: &Table, equation: usize) -> io::Result<()> {
     print_name(out, 'e', equation)?;
-    for j in 0..64 {
-        if has(table.variables, j) {
-            match table.place(equation, j) {
-                Some(order) => write!(out, "{:>5}", order)?,
-                None => write!(out, "    .")?,
-            }
+    for j in (0..64).filter(|&j| has(table.variables, j)) {
+        match table.place(equation, j) {
+            Some(order) => write!(out, "{order:>5}")?,
+            None => write!(out, "    .")?,
         }
     }
     writeln!(out, "")
@@ -59,10 +55,8 @@ fn print_matrix<W: Write>(out: &mut W, table: &Table) -> io::Result<()> {
     if table.variables != 0 {
         print_header(out, table.variables)?;
     }
-    for i in 0..64 {
-        if has(table.equations, i) {
-            print_row(out, table, i)?;
-        }
+    for i in (0..64).filter(|&i| has(table.equations, i)) {
+        print_row(out, table, i)?;
     }
     Ok(())
 }
@@ -91,20 +85,15 @@ fn print_drawn<W: Write, B: GuardBook + Drop>(
 ) -> io::Result<()> {
     match drawn {
         Ok(sheet) => print_modes(out, &sheet),
-        Err(fault) => print_refusal(out, fault),
+        Err(fault) => writeln!(out, "{fault}"),
     }
-}
-
-fn print_refusal<W: Write>(out: &mut W, fault: FileFault) -> io::Result<()> {
-    let number = fault.fault.number();
-    writeln!(out, "refused {number} record {}", fault.record)
 }
 
 // Draws the file over a word book if that takes so many switches, and over a row book otherwise.
 fn show<W: Write>(out: &mut W, bytes: &[u8]) -> io::Result<()> {
     let file = match SheetFile::open(bytes) {
         Ok(file) => file,
-        Err(fault) => return print_refusal(out, FileFault::from(fault)),
+        Err(fault) => return writeln!(out, "{}", FileFault::from(fault)),
     };
     let switches = file.switches();
     if WordBook::check_switches(switches) == 0 {

@@ -23,21 +23,23 @@ fn met(bytes: &[u8]) -> (u8, usize) {
             let book = RowBook::new(file.switches());
             match issued(file, book) {
                 Ok(_) => (0, 0),
-                Err(fault) => (fault.fault.number(), fault.record),
+                Err(fault) => numbers(fault),
             }
         }
-        Err(fault) => (fault.number(), fault.record()),
+        Err(fault) => numbers(FileFault::from(fault)),
     }
+}
+
+fn numbers(fault: FileFault) -> (u8, usize) {
+    (fault.fault.number(), fault.record.unwrap_or(0))
 }
 
 // A file of two records.
 fn file_of(header: [u8; 8], one: [u8; 8], two: [u8; 8]) -> [u8; 24] {
     let mut bytes = [0; 24];
-    for i in 0..8 {
-        bytes[i] = header[i];
-        bytes[8 + i] = one[i];
-        bytes[16 + i] = two[i];
-    }
+    bytes[..8].copy_from_slice(&header);
+    bytes[8..16].copy_from_slice(&one);
+    bytes[16..].copy_from_slice(&two);
     bytes
 }
 
@@ -222,11 +224,11 @@ fn records_before_a_refused_one_stand(rt: HostRuntime) -> Result<(), Fail> {
     draw(&mut draft, 1, &[0, 2, b'O', 0, 0, 3, 0, 0])?;
     match draw(&mut draft, 7, &refused) {
         Ok(_) => assert!(rt; false),
-        Err(fault) => assert_eq!(rt; (fault.fault.number(), fault.record), (11, 7)),
+        Err(fault) => assert_eq!(rt; numbers(fault), (11, 7)),
     }
     match draw(&mut draft, 8, &refused[0..7]) {
         Ok(_) => assert!(rt; false),
-        Err(fault) => assert_eq!(rt; (fault.fault.number(), fault.record), (4, 8)),
+        Err(fault) => assert_eq!(rt; numbers(fault), (4, 8)),
     }
     assert_eq!(rt; draft.issue().signature(0)?.place(0, 0), Some(3));
     Ok(())

@@ -53,9 +53,5 @@ impl<B: GuardBook> Model for Issued<B> {
 pub fn check_counts(equations: usize, variables: usize) -> u8
     ensures { result ≡ bare (too_many equations variables) TooLarge }
 {
-    if equations > 64 || variables > 64 {
-        Fault::TooLarge.number()
-    } else {
-        0
-    }
+    Fault::TooLarge.number_if(equations > 64 || variables > 64)
 }
