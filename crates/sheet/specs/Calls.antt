@@ -1,5 +1,5 @@
 -- The drafting calls: what each answers, and the ledger after it. Assumes nothing.
-use Rattle.std.specs.Prelude.{◌≡◌, ℕ, Bool, cond, not, ◌&&◌, ◌||◌, List, [], ◌∷◌, ◌++◌, length, replicate, Ok, Err, filter, Result, ◌==◌, nat_lt, slice_set}
+use Rattle.std.specs.Prelude.{◌≡◌, ℕ, Bool, if◌then◌else◌, not, ◌&&◌, ◌||◌, List, [], ◌∷◌, ◌++◌, length, replicate, Ok, Err, filter, Result, ◌==◌, nat_lt, slice_set}
 use Rattle.faults.specs.declared.Fault.{Fault}
 use Rattle.faults.specs.declared.Fault.TheVariants.{NoSuchGuard, NoSuchPlace, OrderTooHigh, OccurrencesFull, NothingToStrike}
 use Rattle.faults.specs.Refusals.{Refusal, told}
@@ -20,7 +20,7 @@ fresh_sheet b n m = record { book = b; equations = replicate n 0; variables = re
 
 -- without equations and variables where the check refuses
 abbrev pub new_sheet : Meaning → ℕ → ℕ → Ledger
-new_sheet b n m = cond (too_many n m) (fresh_sheet b 0 0) (fresh_sheet b n m)
+new_sheet b n m = if too_many n m then fresh_sheet b 0 0 else fresh_sheet b n m
 
 abbrev pub has_guard : Ledger → ℕ → Bool
 has_guard l g = nat_lt g (length l.book.guards)

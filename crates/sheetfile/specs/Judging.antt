@@ -1,5 +1,5 @@
 -- The one answer of opening a file, and a way to work it out. Assumes nothing.
-use Rattle.std.specs.Prelude.{◌≡◌, ℕ, zero, suc, ◌%◌, Bool, cond, ◌&&◌, List, [], ◌∷◌, length, Ok, Err, Result, ◌==◌, nat_le, nat_lt}
+use Rattle.std.specs.Prelude.{◌≡◌, ℕ, zero, suc, ◌%◌, Bool, if◌then◌else◌, ◌&&◌, List, [], ◌∷◌, length, Ok, Err, Result, ◌==◌, nat_le, nat_lt}
 use Rattle.faults.specs.declared.Fault.{Fault}
 use Rattle.faults.specs.declared.Fault.TheVariants.{BadLength, BadHeader, BadLink, BadRecord, EndlessChain}
 use Rattle.faults.specs.Refusals.{refusal, told}
@@ -20,16 +20,16 @@ preceded n (Err e) = Err e
 unfoldable pub walked : List ℕ → ℕ → ℕ → Result (List ℕ) Fault
 walked f zero n = Err EndlessChain
 walked f (suc k) n =
-    cond (n == 0) (Ok []) (
-    cond (nat_lt (count_of f) (next_of f n)) (Err (BadLink n)) (
-    cond (sound (part_of f n)) (preceded n (walked f k (next_of f n))) (Err (BadRecord n))))
+    if n == 0 then Ok [] else
+    if nat_lt (count_of f) (next_of f n) then Err (BadLink n) else
+    if sound (part_of f n) then preceded n (walked f k (next_of f n)) else Err (BadRecord n)
 
 unfoldable pub opening : List ℕ → Result (List ℕ) Fault
 opening f =
-    cond (is_whole f) (
-    cond (is_headed f) (
-    cond (nat_lt (count_of f) (first_of f)) (Err (BadLink 0)) (
-    walked f (suc (count_of f)) (first_of f))) (Err BadHeader)) (Err BadLength)
+    if is_whole f then (
+    if is_headed f then (
+    if nat_lt (count_of f) (first_of f) then Err (BadLink 0) else
+    walked f (suc (count_of f)) (first_of f)) else Err BadHeader) else Err BadLength
 
 -- every file has an answer, the one worked out, and no other
 abbrev pub OneAnswer : Type 0
