@@ -1,5 +1,5 @@
 // An occurrence: a variable stands in an equation with an order, where a guard says yes.
-#[derive(Clone, Copy, Debug)]
+#[derive(Clone, Copy, Debug, Default, PartialEq, Eq)]
 pub struct Occurrence {
     pub equation: u8,
     pub variable: u8,
