@@ -1,5 +1,5 @@
 -- A table with one more occurrence, of equation e and variable v. Assumes nothing.
-use Rattle.std.proofs.Common.{◌≡◌, ℕ, ◌^◌, ◌<◌, Bool, true, cond, ◌&&◌, ◌||◌, eqb, List, [], length, get_or, set, Some, None, Option, is_some, refl, arith, get_or-set_other}
+use Rattle.std.proofs.Common.{◌≡◌, ℕ, ◌^◌, ◌<◌, Bool, true, cond, ◌&&◌, ◌||◌, eqb, List, [], length, get_or, set, Some, None, Option, All, is_some, refl, arith, get_or-set_other}
 use Rattle.std.specs.Option.{option_cmp}
 use Rattle.std.specs.Ordering.{nat_cmp, ord_max}
 use Rattle.std.proofs.lemmas.Bool.Decides.{nat_tests}
@@ -27,9 +27,10 @@ ord_max-raised None k = refl
 ord_max-raised (Some n) k = grind (arith, nat_tests)
 
 -- the larger order put at a place: that place is raised, and the others stay
-pub order_put : (os : List (List (Option ℕ))) (e v k : ℕ) (h : Option ℕ) → e < length os → v < length (get_or os e []) → h ≡ ord_max (option_cmp nat_cmp) (order_at os e v) (Some k) →
+pub order_put : (os : List (List (Option ℕ))) (e v k : ℕ) (h : Option ℕ) → All (λ row. length row ≡ 64) os → e < length os → v < 64 → h ≡ ord_max (option_cmp nat_cmp) (order_at os e v) (Some k) →
     (i j : ℕ) → order_at (set os e (set (get_or os e []) v h)) i j ≡ cond (here e v i j) (raised (order_at os i j) k) (order_at os i j)
-order_put os e v k h l lv m i j =
+order_put os e v k h w l lv m i j =
+    let n : length (get_or os e []) ≡ 64 = w e [] l in
     let r = ord_max-raised (order_at os e v) k in
     grind (arith, nat_tests, common_steps, get_or-set_other)
 

@@ -1,4 +1,4 @@
-use Rattle.std.proofs.Common.{◌≡◌, ◌<◌, [], length, get_or, sym, refl, arith, rules}
+use Rattle.std.proofs.Common.{◌<◌, sym, refl, arith, rules}
 use Rattle.std.proofs.lemmas.Bool.Decides.{nat_tests}
 use Rattle.std.proofs.lemmas.Grind.{elements}
 use Rattle.sets.proofs.Members.{member_below}
@@ -15,10 +15,9 @@ invariant_of-self c =
     let av = c.if-has-2.ensures in
     let le : e < 64 = member_below 64 t.equations e (search rules) (sym ae) in
     let lv : v < 64 = member_below 64 t.variables v (search rules) (sym av) in
-    let row : length (get_or t.orders e []) ≡ 64 = t.whole e [] (search rules) in
     let new = joined_at t.across e v c.with.result (search rules) lv c.with.ensures in
     let up = joined_at t.down v e c.with-then-has-2.result (search rules) le c.with-then-has-2.ensures in
-    let put = order_put t.orders e v c.args.order c.max.result (search rules) (omega arith) c.max.ensures in
+    let put = order_put t.orders e v c.args.order c.max.result t.whole (search rules) lv c.max.ensures in
     record {
       whole = grind (arith, elements);
       filled = λ i j.
@@ -38,6 +37,5 @@ returns-then-has-2 c =
     let v = c.args.variable in
     let le : e < 64 = member_below 64 t.equations e (search rules) (sym c.if-has.ensures) in
     let lv : v < 64 = member_below 64 t.variables v (search rules) (sym c.if-has-2.ensures) in
-    let row : length (get_or t.orders e []) ≡ 64 = t.whole e [] (search rules) in
-    let put = order_put t.orders e v c.args.order c.max.result (search rules) (omega arith) c.max.ensures in
+    let put = order_put t.orders e v c.args.order c.max.result t.whole (search rules) lv c.max.ensures in
     record { rows = refl; columns = refl; places = λ i j. let p = put i j in grind (arith, nat_tests) }
