@@ -7,7 +7,7 @@ ghost use Rattle.sheet.specs.Signatures.{signed, shown};
 use crate::Issued;
 use faults::Fault;
 use guards::GuardBook;
-use reading::{says, signature};
+use reading::Setting;
 use sigma::Table;
 
 impl<B: GuardBook> Issued<B> {
@@ -27,15 +27,13 @@ impl<B: GuardBook> Issued<B> {
             return Err(Fault::NoSuchMode);
         }
         let lines = &self.lines;
-        if !says(&self.book, lines.assumed as usize, mode) {
+        let setting = Setting {
+            book: &self.book,
+            mode,
+        };
+        if !setting.says(lines.assumed as usize) {
             return Err(Fault::ModeNotAllowed);
         }
-        Ok(signature(
-            &self.book,
-            &lines.equations,
-            &lines.variables,
-            &lines.occurrences,
-            mode,
-        ))
+        Ok(setting.signature(&lines.equations, &lines.variables, &lines.occurrences))
     }
 }

@@ -1,5 +1,5 @@
 -- The signature of one mode. Assumes nothing.
-use Rattle.std.specs.Prelude.{ℕ, zero, suc, max, Bool, cond, List, [], ◌∷◌, ◌++◌, Some, None, Option}
+use Rattle.std.specs.Prelude.{ℕ, zero, suc, max, Bool, if◌then◌else◌, List, [], ◌∷◌, ◌++◌, Some, None, Option, slice_index_or}
 
 -- the active equations and the active variables, rising, and the order at each place, none where the place is empty
 pub record Signature : Type 0 where
@@ -10,9 +10,13 @@ pub record Signature : Type 0 where
 -- the numbers below a bound that pass a test, rising
 abbrev pub rising : (ℕ → Bool) → ℕ → List ℕ
 rising p zero = []
-rising p (suc n) = rising p n ++ cond (p n) (n ∷ []) []
+rising p (suc n) = rising p n ++ (if p n then n ∷ [] else [])
 
 -- a place with one more order: the larger one stands
 abbrev pub raised : Option ℕ → ℕ → Option ℕ
 raised None k = Some k
 raised (Some n) k = Some (max n k)
+
+-- the order in row i and column j, none where there is no such place
+abbrev pub order_at : List (List (Option ℕ)) → ℕ → ℕ → Option ℕ
+order_at orders i j = slice_index_or (slice_index_or orders i []) j None

@@ -1,11 +1,11 @@
 -- The signature that a table stands for. Assumes nothing.
-use Rattle.std.specs.Prelude.{ℕ, Bool, cond, ◌&&◌, [], Some, None, Option, ◌==◌, slice_index, slice_index_or}
+use Rattle.std.specs.Prelude.{◌≡◌, ℕ, Bool, if◌then◌else◌, ◌&&◌, Option, ◌==◌}
 use Rattle.sets.specs.Word.{member}
 use Rattle.sigma.specs.declared.Table.{Table}
-use Rattle.sigma.specs.Signature.{Signature, rising, raised}
+use Rattle.sigma.specs.Signature.{Signature, rising, raised, order_at}
 
 abbrev pub place_in : Table → ℕ → ℕ → Option ℕ
-place_in t i j = cond (member (slice_index t.across i) j) (Some (slice_index (slice_index_or t.orders i []) j)) None
+place_in t i j = order_at t.orders i j
 
 abbrev pub signature_of : Table → Signature
 signature_of t = record { equations = rising (member t.equations) 64; variables = rising (member t.variables) 64; place = place_in t }
@@ -16,4 +16,10 @@ both_active t e v = member t.equations e && member t.variables v
 
 -- the place i, j with one more occurrence, of equation e and variable v with order k
 abbrev pub counted : Table → ℕ → ℕ → ℕ → ℕ → ℕ → Option ℕ
-counted t e v k i j = cond (both_active t e v && (e == i && v == j)) (raised (place_in t i j) k) (place_in t i j)
+counted t e v k i j = if both_active t e v && (e == i && v == j) then raised (place_in t i j) k else place_in t i j
+
+-- t has the active equations and variables given, as words, and at each place what `place` says
+pub record IsTableOf (equations variables : ℕ) (place : ℕ → ℕ → Option ℕ) (t : Table) : Type 0 where
+  pub rows : t.equations ≡ equations
+  pub columns : t.variables ≡ variables
+  pub places : (i j : ℕ) → place_in t i j ≡ place i j

@@ -1,10 +1,11 @@
-// The signature of a mode as a table: the active equations and variables as words, which places are filled, and the orders there.
+// The signature of a mode as a table: the active equations and variables as words, the order at each place, and which places are filled.
 #![tactic(auto)]
 
-ghost use Rattle.std.specs.Prelude.{◌≡◌, ℕ, ◌<◌, ◌&&◌, [], length, slice_index, slice_index_or};
+ghost use Rattle.std.specs.Prelude.{◌≡◌, ℕ, ◌&&◌, length, All, None, is_some, slice_index};
 ghost use Rattle.sets.specs.Word.{member};
+ghost use Rattle.sigma.specs.Signature.{order_at};
 
-mod filling;
+use sets::{has, with};
 
 #[derive(Drop)]
 pub struct Table {
@@ -14,12 +15,50 @@ pub struct Table {
     pub across: [u64; 64],
     // the equations at the filled places of a variable
     pub down: [u64; 64],
-    // by equation and variable; of no account at an empty place
-    pub orders: [[u8; 64]; 64],
+    // by equation and variable, none where the place is empty
+    pub orders: [[Option<u8>; 64]; 64],
     ghost whole_across: { length across ≡ 64 },
     ghost whole_down: { length down ≡ 64 },
     ghost whole_orders: { length orders ≡ 64 },
-    ghost whole_rows: { (i : ℕ) → i < 64 → length (slice_index_or orders i []) ≡ 64 },
+    ghost whole_rows: { All (λ row. length row ≡ 64) orders },
+    ghost filled: { (i j : ℕ) → member (slice_index across i) j ≡ is_some (order_at orders i j) },
     ghost agree: { (i j : ℕ) → member (slice_index across i) j ≡ member (slice_index down j) i },
     ghost within: { (i j : ℕ) → (member (slice_index across i) j && (member equations i && member variables j)) ≡ member (slice_index across i) j },
+}
+
+impl Table {
+    ghost use Rattle.sigma.specs.Tables.{IsTableOf, place_in, counted};
+
+    // No place is filled.
+    pub fn new(equations: u64, variables: u64) -> Self
+        ensures { IsTableOf equations variables (λ _ _. None) result }
+    {
+        Table {
+            equations,
+            variables,
+            across: [0; 64],
+            down: [0; 64],
+            orders: [[None; 64]; 64],
+        }
+    }
+
+    // One occurrence more: at a place of an active equation and an active variable the larger order stands.
+    #[tactic(auto, using(crate::proofs::Places::member_bound))]
+    pub fn count(&mut self, equation: usize, variable: usize, order: u8)
+        ensures { IsTableOf self.old.equations self.old.variables (counted self.old equation variable order) self.new }
+    {
+        if has(self.equations, equation) && has(self.variables, variable) {
+            let place = &mut self.orders[equation][variable];
+            *place = (*place).max(Some(order));
+            self.across[equation] = with(self.across[equation], variable);
+            self.down[variable] = with(self.down[variable], equation);
+        }
+    }
+
+    // The order at a place, none where it is empty.
+    pub fn place(&self, equation: usize, variable: usize) -> Option<u8>
+        ensures { result ≡ place_in self.now equation variable }
+    {
+        *self.orders.get(equation)?.get(variable)?
+    }
 }
