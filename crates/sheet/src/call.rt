@@ -2,7 +2,7 @@
 use guards::Entry;
 
 // what a drafting call asks for
-#[derive(Clone, Copy, Debug)]
+#[derive(Clone, Copy, Debug, PartialEq, Eq)]
 pub enum Change {
     Enter(Entry),
     Equation {
@@ -29,7 +29,7 @@ pub enum Change {
     },
 }
 
-#[derive(Clone, Copy, Debug)]
+#[derive(Clone, Copy, Debug, PartialEq, Eq)]
 pub enum Call {
     Draft(Change),
     Issue,
