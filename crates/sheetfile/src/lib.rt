@@ -63,10 +63,14 @@ fn is_whole(bytes: &[u8]) -> bool
 }
 
 fn is_headed(bytes: &[u8]) -> bool
-    requires { 8 ≤ length bytes.now }
     ensures { result ≡ is_headed bytes.now }
 {
-    matches!(bytes, [_, _, 0..=16, 0..=64, 0..=64, 0, 0, 0, ..])
+    byte_at(bytes, 2) <= 16
+        && byte_at(bytes, 3) <= 64
+        && byte_at(bytes, 4) <= 64
+        && byte_at(bytes, 5) == 0
+        && byte_at(bytes, 6) == 0
+        && byte_at(bytes, 7) == 0
 }
 
 // Whether the eight bytes of a record ask for a call.
