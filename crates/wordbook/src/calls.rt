@@ -1,14 +1,16 @@
 // The word book's making and calls.
-ghost use Rattle.std.specs.Prelude.{◌≡◌, ◌+◌, ◌<◌, true, length};
-ghost use Rattle.guards.specs.Meaning.{says, modes, new_book};
-ghost use Rattle.guards.specs.Calls.{named};
-ghost use Rattle.wordbook.specs.Words.{of_words, entry_word, SwitchWordsRule};
+ghost use Rattle.std.specs.Prelude.{◌≡◌, ℕ, ◌<◌, true, length};
+ghost use Rattle.guards.specs.Meaning.{modes, new_book, on_in};
+ghost use Rattle.guards.specs.Calls.{named, entry_says};
+ghost use Rattle.wordbook.specs.Words.{of_words, SwitchWordsRule};
 ghost use Rattle.wordbook.specs.WordsLemmas as Words;
 ghost use Rattle.std.proofs.Common.{rules};
 
 use crate::WordBook;
+use arrayvec::ArrayVec;
 use faults::Fault;
-use guards::{Entry, GuardBook, admit};
+use guards::{Entry, GuardBook};
+use sets::has;
 
 const SWITCH_WORDS: [u64; 6] = [
     0xAAAA_AAAA_AAAA_AAAA,
@@ -20,33 +22,27 @@ const SWITCH_WORDS: [u64; 6] = [
 ];
 
 // Bit m of the word of a switch is that switch's bit of m.
-pub fn switch_words_stand() -> u8
+pub fn switch_words_stand()
     ensures { SwitchWordsRule }
-{
-    0
-}
+{}
 
 impl WordBook {
     // A book with free switches and guard 0 alone; without switches where `check_switches` would refuse them.
     pub fn new(switches: usize) -> Self
         ensures { of_words result ≡ new_book 6 switches }
     {
-        let switches = if switches > Self::limit() {
-            0
-        } else {
-            switches
-        };
+        let mut words = ArrayVec::new();
+        words.push(u64::MAX);
         WordBook {
-            switches,
-            last: 0,
-            words: [0xFFFF_FFFF_FFFF_FFFF; 64],
+            switches: Self::switches_made(switches),
+            words,
         }
     }
 
-    // The word of an entry.
+    // The word of an entry: bit m of it is what the entry says in mode m.
     fn word(&self, entry: Entry) -> u64
-        requires { named self.now.switches (self.now.last + 1) entry ≡ true }
-        ensures { result ≡ entry_word self.now.words entry }
+        requires { named self.now.switches (length (of_words self.now).guards) entry ≡ true }
+        ensures { (m : ℕ) → m < modes (of_words self.now) → on_in m result ≡ entry_says (of_words self.now) entry m }
     {
         match entry {
             Entry::Switch(s) => SWITCH_WORDS[s],
@@ -55,14 +51,6 @@ impl WordBook {
             Entry::Either(g, h) => self.words[g] | self.words[h],
         }
     }
-
-    // The answer of a standing guard.
-    fn bit(&self, guard: usize, mode: usize) -> bool
-        requires { (guard < length (of_words self.now).guards) × (mode < modes (of_words self.now)) }
-        ensures { result ≡ says (of_words self.now) guard mode }
-    {
-        (self.words[guard] >> mode) & 1 == 1
-    }
 }
 
 impl GuardBook for WordBook {
@@ -70,39 +58,29 @@ impl GuardBook for WordBook {
 
     const MOST_SWITCHES: usize = 6;
 
-    ghost most = { 6 };
+    ghost MOST_SWITCHES = { 6 };
 
     ghost most_bound = { Prim.search rules };
 
     ghost sound = { λ x. Words.sound x };
-
-    fn limit() -> usize {
-        Self::MOST_SWITCHES
-    }
 
     fn switches(&self) -> usize {
         self.switches
     }
 
     fn guards(&self) -> usize {
-        self.last + 1
+        self.words.len()
     }
 
     fn enter(&mut self, entry: Entry) -> Result<usize, Fault> {
-        let n = admit(self.switches, self.last + 1, entry)?;
+        let guard = self.admit(entry)?;
         let word = self.word(entry);
-        self.words[n] = word;
-        self.last = n;
-        Ok(n)
+        self.words.push(word);
+        Ok(guard)
     }
 
     fn ask(&self, guard: usize, mode: usize) -> Result<bool, Fault> {
-        if guard >= self.guards() {
-            return Err(Fault::NoSuchGuard);
-        }
-        if mode >= self.modes() {
-            return Err(Fault::NoSuchMode);
-        }
-        Ok(self.bit(guard, mode))
+        self.admit_question(guard, mode)?;
+        Ok(has(self.words[guard], mode))
     }
 }

@@ -1,4 +1,4 @@
-use Rattle.wordbook.specs.Switches.{switch_rule}
+use Rattle.wordbook.proofs.Switches.{switch_rule}
 use Rattle.wordbook.proofs.calls.switch_words_stand.Goals as goal
 
 pub returns : goal.returns
