@@ -10,3 +10,14 @@ pub enum Entry {
     // yes where one of two guards says yes
     Either(usize, usize),
 }
+
+impl Default for Entry {
+    ghost use Rattle.std.specs.Prelude.{◌≡◌};
+    ghost use Rattle.guards.specs.declared.entry.Entry.TheVariants.{Switch};
+
+    ghost is_default = { λ e. e ≡ Switch 0 };
+
+    fn default() -> Self {
+        Entry::Switch(0)
+    }
+}

@@ -7,36 +7,31 @@ ghost use Rattle.rowbook.specs.RowsLemmas as Rows;
 ghost use Rattle.std.proofs.Common.{rules};
 
 use crate::RowBook;
+use arrayvec::ArrayVec;
 use faults::Fault;
-use guards::{Entry, GuardBook, admit};
-
-// What an entry says in a mode, by the answers of the guards before it.
-fn worked(entry: Entry, mode: usize, answers: &[bool; 64]) -> bool
-    requires { named 16 64 entry ≡ true }
-    ensures { result ≡ says_by answers.now entry mode }
-{
-    match entry {
-        Entry::Switch(s) => (mode >> s) & 1 == 1,
-        Entry::Not(g) => !answers[g],
-        Entry::Both(g, h) => answers[g] & answers[h],
-        Entry::Either(g, h) => answers[g] | answers[h],
-    }
-}
+use guards::{Entry, GuardBook};
 
 impl RowBook {
     // A book with free switches and guard 0 alone; without switches where `check_switches` would refuse them.
     pub fn new(switches: usize) -> Self
         ensures { of_rows result ≡ new_book 16 switches }
     {
-        let switches = if switches > Self::limit() {
-            0
-        } else {
-            switches
-        };
         RowBook {
-            switches,
-            last: 0,
-            entries: [Entry::Switch(0); 63],
+            switches: Self::switches_made(switches),
+            entries: ArrayVec::new(),
+        }
+    }
+
+    // What an entry says in a mode, by the answers of the guards before it.
+    fn worked(&self, entry: Entry, mode: usize, answers: &[bool]) -> bool
+        requires { named self.now.switches (length answers.now) entry ≡ true }
+        ensures { result ≡ says_by answers.now entry mode }
+    {
+        match entry {
+            Entry::Switch(s) => (mode >> s) & 1 == 1,
+            Entry::Not(g) => !answers[g],
+            Entry::Both(g, h) => answers[g] && answers[h],
+            Entry::Either(g, h) => answers[g] || answers[h],
         }
     }
 
@@ -45,9 +40,11 @@ impl RowBook {
         requires { (guard < length (of_rows self.now).guards) × (mode < modes (of_rows self.now)) }
         ensures { result ≡ says (of_rows self.now) guard mode }
     {
-        let mut answers = [true; 64];
-        for i in 0..guard {
-            answers[i + 1] = worked(self.entries[i], mode, &answers);
+        let mut answers: ArrayVec<bool, 64> = ArrayVec::new();
+        answers.push(true);
+        for entry in &self.entries[..guard] {
+            let answer = self.worked(*entry, mode, &answers);
+            answers.push(answer);
         }
         answers[guard]
     }
@@ -58,38 +55,31 @@ impl GuardBook for RowBook {
 
     const MOST_SWITCHES: usize = 16;
 
-    ghost most = { 16 };
+    ghost MOST_SWITCHES = { 16 };
 
     ghost most_bound = { Prim.search rules };
 
     ghost sound = { λ x. Rows.sound x };
 
-    fn limit() -> usize {
-        Self::MOST_SWITCHES
-    }
-
+    #[tactic(auto, using(crate::proofs::Passes::width))]
     fn switches(&self) -> usize {
         self.switches
     }
 
+    #[tactic(auto, using(crate::proofs::Passes::count))]
     fn guards(&self) -> usize {
-        self.last + 1
+        self.entries.len() + 1
     }
 
+    #[tactic(auto, using(crate::proofs::Passes::count))]
     fn enter(&mut self, entry: Entry) -> Result<usize, Fault> {
-        let n = admit(self.switches, self.last + 1, entry)?;
-        self.entries[self.last] = entry;
-        self.last = n;
-        Ok(n)
+        let guard = self.admit(entry)?;
+        self.entries.push(entry);
+        Ok(guard)
     }
 
     fn ask(&self, guard: usize, mode: usize) -> Result<bool, Fault> {
-        if guard >= self.guards() {
-            return Err(Fault::NoSuchGuard);
-        }
-        if mode >= self.modes() {
-            return Err(Fault::NoSuchMode);
-        }
+        self.admit_question(guard, mode)?;
         Ok(self.answer(guard, mode))
     }
 }
