@@ -37,7 +37,8 @@ impl RowBook {
 
     // The answer of a standing guard, by one pass over the entries before it and its own.
     fn answer(&self, guard: usize, mode: usize) -> bool
-        requires { (guard < length (of_rows self.now).guards) × (mode < modes (of_rows self.now)) }
+        requires stands { guard < length (of_rows self.now).guards }
+        requires in_modes { mode < modes (of_rows self.now) }
         ensures { result ≡ says (of_rows self.now) guard mode }
     {
         let mut answers: ArrayVec<bool, 64> = ArrayVec::new();

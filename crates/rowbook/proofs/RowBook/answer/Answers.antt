@@ -11,19 +11,19 @@ before : (x : RowBook) (g : ℕ) (es : List Entry) → es ≡ x.entries.items �
 before x g es e l = rw e (length-take-le g x.entries.items (omega (arith, count x)))
 
 pub slice_bounds-entry-items-end : goal.slice_bounds-entry-items-end
-slice_bounds-entry-items-end c = sym (before c.args.self.now c.args.guard _ c.deref.ensures.0 c.requires.0)
+slice_bounds-entry-items-end c = sym (before c.args.self.now c.args.guard _ c.deref.ensures.0 c.requires.stands)
 
 pub loop-entry-init : goal.loop-entry-init
 loop-entry-init c =
     let x = c.args.self.now in
-    rw (c.push.ensures.items, c.new-answers.ensures) (sym (passed_none x.switches c.args.mode (rw width at c.requires.1)))
+    rw (c.push.ensures.items, c.new-answers.ensures) (sym (passed_none x.switches c.args.mode (rw width at c.requires.in_modes)))
 
 pub worked-answer-requires : goal.worked-answer-requires
 worked-answer-requires c =
     let x = c.args.self.now in
     let i = c.loop-entry.entry-index in
     let n = length-passed x.switches c.args.mode i _ c.loop-entry.auto.entry-index-end in
-    let t = before x c.args.guard _ c.deref.ensures.0 c.requires.0 in
+    let t = before x c.args.guard _ c.deref.ensures.0 c.requires.stands in
     let l : i < c.args.guard = omega arith in
     rw (c.deref-in-loop-entry.ensures.0, c.loop-entry.invariant, n, c.deref.ensures.0, get_or-take c.args.guard x.entries.items i (Switch 0) l)
     (x.stands i (omega (arith, count x)))
@@ -32,7 +32,7 @@ pub push-requires-in-loop-entry : goal.push-requires-in-loop-entry
 push-requires-in-loop-entry c =
     let x = c.args.self.now in
     let n = length-passed x.switches c.args.mode c.loop-entry.entry-index _ c.loop-entry.auto.entry-index-end in
-    let t = before x c.args.guard _ c.deref.ensures.0 c.requires.0 in
+    let t = before x c.args.guard _ c.deref.ensures.0 c.requires.stands in
     (omega arith, rw (c.loop-entry.invariant, n) (omega (arith, count x)))
 
 pub loop-entry-preserved : goal.loop-entry-preserved
@@ -41,13 +41,13 @@ loop-entry-preserved c =
     let es = take c.args.guard c.deref.result.now in
     let i = c.loop-entry.entry-index in
     rw (c.push-in-loop-entry.ensures.items, c.worked-answer.ensures, c.deref-in-loop-entry.ensures.0, c.loop-entry.invariant, take_more es i (Switch 0) c.loop-entry-test.true)
-    (sym (passed_push x.switches c.args.mode (take i es) (get_or es i (Switch 0)) (rw width at c.requires.1)))
+    (sym (passed_push x.switches c.args.mode (take i es) (get_or es i (Switch 0)) (rw width at c.requires.in_modes)))
 
 pub bounds-deref-guard : goal.bounds-deref-guard
 bounds-deref-guard c =
     let x = c.args.self.now in
     let n = length-passed x.switches c.args.mode c.loop-entry.entry-index _ c.loop-entry.auto.entry-index-end in
-    let t = before x c.args.guard _ c.deref.ensures.0 c.requires.0 in
+    let t = before x c.args.guard _ c.deref.ensures.0 c.requires.stands in
     rw (c.deref-2.ensures.0, c.loop-entry.invariant, n) (omega arith)
 
 pub returns : goal.returns
