@@ -1,11 +1,10 @@
 // A guard book over any other, with one of its switches held on or off.
 #![tactic(auto)]
 
-ghost use Rattle.std.specs.Prelude.{◌≡◌, ◌<◌, nat_le};
+ghost use Rattle.std.specs.Prelude.{◌≡◌, nat_le};
 ghost use Rattle.faults.specs.declared.Fault.TheVariants.{NoSuchSwitch};
 ghost use Rattle.faults.specs.Refusals.{bare};
-ghost use Rattle.guards.specs.Meaning.{seen};
-ghost use Rattle.heldbook.specs.Held.{alone, held, hold_of, of_held, put_mode};
+ghost use Rattle.heldbook.specs.Held.{held, of_held, put_mode};
 ghost use Rattle.heldbook.specs.Over.{held_sound};
 ghost use Rattle.std.proofs.Common.{rules};
 
@@ -44,20 +43,12 @@ impl<B: GuardBook> Held<B> {
         ensures { result ≡ put_mode self.now.switch self.now.on (B.meaning self.now.below) mode }
     {
         if self.switch >= self.below.switches() {
-            return mode;
+            mode
+        } else if self.on {
+            mode | (1 << self.switch)
+        } else {
+            mode & !(1 << self.switch)
         }
-        put_switch(self.switch, self.on, mode)
-    }
-}
-
-fn put_switch(switch: usize, on: bool, mode: usize) -> usize
-    requires { switch < 64 }
-    ensures { result ≡ seen (alone switch (hold_of on)) mode }
-{
-    if on {
-        mode | (1 << switch)
-    } else {
-        mode & !(1 << switch)
     }
 }
 
@@ -66,20 +57,17 @@ impl<B: GuardBook> GuardBook for Held<B> {
 
     const MOST_SWITCHES: usize = B::MOST_SWITCHES;
 
-    ghost most = { B.GuardBook.most };
+    ghost MOST_SWITCHES = { B.GuardBook.MOST_SWITCHES };
 
     ghost most_bound = { Prim.search rules };
 
     ghost sound = { λ x. held_sound x.switch x.on (B.GuardBook.meaning x.below) _ (B.GuardBook.sound x.below) };
 
-    fn limit() -> usize {
-        B::limit()
-    }
-
     fn switches(&self) -> usize {
         self.below.switches()
     }
 
+    #[tactic(auto, using(crate::proofs::Commutes::held_guards))]
     fn guards(&self) -> usize {
         self.below.guards()
     }
