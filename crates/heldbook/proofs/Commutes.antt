@@ -1,17 +1,17 @@
 -- A held book commutes with entries and questions of the book below. Assumes nothing.
-use Rattle.std.proofs.Common.{◌≡◌, ℕ, ◌<◌, ◌≤◌, Bool, false, not, List, [], ◌∷◌, ◌++◌, map, length, get_or, Ok, Err, Result, sym, refl, ap, ◌∙◌, ⊎_elim, arith}
+use Rattle.std.proofs.Common.{◌≡◌, ℕ, ◌<◌, Bool, false, not, List, [], ◌∷◌, ◌++◌, map, length, get_or, Option, Some, None, Ok, Err, Result, sym, refl, ap, ◌∙◌, ⊎_elim, arith}
 use Rattle.std.proofs.lemmas.List.{map-append}
 use Rattle.std.proofs.lemmas.Bool.{lt-ltb, le-ltb, cases_lt}
 use Rattle.faults.specs.declared.Fault.{Fault}
-use Rattle.faults.specs.Refusals.{Refusal}
+use Rattle.faults.specs.Refusals.{Refusal, told}
 use Rattle.guards.specs.declared.entry.Entry.{Entry}
 use Rattle.guards.specs.declared.entry.Entry.TheVariants.{Switch, Not, Both, Either}
 use Rattle.guards.specs.Meaning.{Meaning, Sound, Hold, seen, row, modes, with_guard, on_in}
 use Rattle.guards.specs.Calls.{entry_says, answer, settle, after, asked, Entered}
 use Rattle.guards.proofs.Bits.{seen-lt, seen-ge}
 use Rattle.guards.proofs.Rows.{row_at, row_same}
-use Rattle.heldbook.specs.Held.{hold_of, alone, held_row, holding, held, put_mode}
-use Rattle.heldbook.specs.Over.{rows_say, held_count, reach, held_cases}
+use Rattle.heldbook.specs.Holding.{hold_of, alone, held_row, holding, under, put_mode, Stands}
+use Rattle.heldbook.specs.Over.{rows_say, held_count, reach}
 use Rattle.heldbook.proofs.Put.{seen-put}
 
 settled : (f : Meaning → Meaning) (r : Result ℕ Refusal) (x y : Meaning) → settle r (f x) (f y) ≡ f (settle r x y)
@@ -60,39 +60,30 @@ module _ (s : ℕ) (h : Hold) (b : Meaning) (in-book : s < b.switches) (one_each
       (λ l. rw (le-ltb m (modes b) l, le-ltb (seen (alone s h) m) (modes b) (seen-ge (alone s h) b.switches m (reach s h b in-book) l)) refl)
       (cases_lt m (modes b)))
 
-held_in : (s : ℕ) (at : Bool) (b : Meaning) → s < b.switches → held s at b ≡ holding s (hold_of at) b
-held_in s at b l = rw (lt-ltb s b.switches l) refl
+pub under-switches : (hold : Option (ℕ × Bool)) (b : Meaning) → (under hold b).switches ≡ b.switches
+under-switches None b = refl
+under-switches (Some h) b = refl
 
-held_out : (s : ℕ) (at : Bool) (b : Meaning) → b.switches ≤ s → held s at b ≡ b
-held_out s at b l = rw (le-ltb s b.switches l) refl
+pub under_guards : (hold : Option (ℕ × Bool)) (b : Meaning) → length (under hold b).guards ≡ length b.guards
+under_guards None b = refl
+under_guards (Some h) b = held_count h.0 (hold_of h.1) b
 
-module _ (s : ℕ) (at : Bool) (b : Meaning) (most : ℕ) where
-  pub held-switches : (held s at b).switches ≡ b.switches
-  held-switches = held_cases (λ y. y.switches ≡ b.switches) s at b (λ _. refl) (λ _. refl)
-
-  pub held_guards : length (held s at b).guards ≡ length b.guards
-  held_guards = held_cases (λ y. length y.guards ≡ length b.guards) s at b (λ _. held_count s (hold_of at) b) (λ _. refl)
-
-  held_answers : (e : Entry) → answer (held s at b) e ≡ answer b e
-  held_answers e = rw (held-switches, held_guards) refl
-
-  held-after : Sound most b → (e : Entry) → after (held s at b) e ≡ held s at (after b e)
-  held-after x e =
-      let k = after-switches b e in
-      held_cases (λ y. after y e ≡ held s at (after b e)) s at b
-      (λ l. holding-after s (hold_of at) b l x.one_each e ∙ sym (held_in s at (after b e) (omega arith)))
-      (λ l. sym (held_out s at (after b e) (omega arith)))
+module _ (b : Meaning) (most : ℕ) (x : Sound most b) where
+  under-after : (hold : Option (ℕ × Bool)) → Stands hold b → (e : Entry) → after (under hold b) e ≡ under hold (after b e)
+  under-after None l e = refl
+  under-after (Some h) l e = holding-after h.0 (hold_of h.1) b (l h refl) x.one_each e
 
   -- an entry into the book below is that entry into the held book
-  pub held_entered : Sound most b → (e : Entry) (r : Result ℕ Fault) (y : Meaning) → Entered b e r y → Entered (held s at b) e r (held s at y)
-  held_entered x e r y below = record {
-    given = below.given ∙ sym (held_answers e);
-    left = ap (held s at) below.left ∙ sym (held-after x e);
+  pub under_entered : (hold : Option (ℕ × Bool)) → Stands hold b → (e : Entry) (r : Result ℕ Fault) (y : Meaning) → Entered b e r y → Entered (under hold b) e r (under hold y)
+  under_entered hold l e r y below = record {
+    given = below.given ∙ sym (rw (under-switches hold b, under_guards hold b) refl);
+    left = ap (under hold) below.left ∙ sym (under-after hold l e);
   }
 
-  pub held-asked : Sound most b → (g m : ℕ) → asked (held s at b) g m ≡ asked b g (put_mode s at b m)
-  held-asked x g m =
-      ⊎_elim
-      (λ l. rw (lt-ltb s b.switches l) (holding-asked s (hold_of at) b l x.one_each g m))
-      (λ l. rw (le-ltb s b.switches l) refl)
-      (cases_lt s b.switches)
+  under-asked : (hold : Option (ℕ × Bool)) → Stands hold b → (g m : ℕ) → asked (under hold b) g m ≡ asked b g (put_mode hold m)
+  under-asked None l g m = refl
+  under-asked (Some h) l g m = holding-asked h.0 (hold_of h.1) b (l h refl) x.one_each g m
+
+  -- what the book below answers in the put mode is what the held book answers
+  pub under_answered : (hold : Option (ℕ × Bool)) → Stands hold b → (r : Result Bool Fault) (g m m' : ℕ) → told r ≡ asked b g m' → m' ≡ put_mode hold m → told r ≡ asked (under hold b) g m
+  under_answered hold l r g m m' below put = below ∙ ap (asked b g) put ∙ sym (under-asked hold l g m)

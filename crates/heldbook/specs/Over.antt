@@ -1,12 +1,11 @@
 -- Laws of a held book, by the book below. Assumes nothing.
-use Rattle.std.specs.Prelude.{◌≡◌, ℕ, zero, suc, ◌<◌, ◌≤◌, Bool, false, List, [], ◌∷◌, map, length, get_or, replicate, slice_index_or, refl}
-use Rattle.std.proofs.Common.{ap, ◌∙◌, ⊎_elim, arith, length-set}
+use Rattle.std.specs.Prelude.{◌≡◌, ℕ, zero, suc, ◌<◌, ◌≤◌, Bool, false, List, [], ◌∷◌, map, length, get_or, replicate, slice_index_or, Option, Some, None, refl}
+use Rattle.std.proofs.Common.{ap, ◌∙◌, arith, length-set}
 use Rattle.std.proofs.lemmas.List.{length-map, length-append, length-replicate, get_or-map}
-use Rattle.std.proofs.lemmas.Bool.{lt-ltb, le-ltb, cases_lt}
 use Rattle.guards.specs.Meaning.{Meaning, Sound, Hold, free, seen, modes}
 use Rattle.guards.proofs.Bits.{seen-lt}
 use Rattle.guards.proofs.Rows.{row_at, row-length}
-use Rattle.heldbook.specs.Held.{hold_of, alone, held_row, holding, held}
+use Rattle.heldbook.specs.Holding.{hold_of, alone, held_row, holding, under, Stands}
 
 -- the rows say what those below say in the put mode
 pub rows_say : (s : ℕ) (h : Hold) (n : ℕ) (gs : List (List Bool)) (g m : ℕ) → m < n → slice_index_or (slice_index_or (map (held_row s h n) gs) g []) m false ≡ slice_index_or (slice_index_or gs g []) (seen (alone s h) m) false
@@ -31,10 +30,6 @@ module _ (s : ℕ) (h : Hold) (b : Meaning) where
     always = λ m l. rows_say s h (modes b) b.guards 0 m l ∙ x.always (seen (alone s h) m) (seen-lt (alone s h) b.switches m (reach i) l);
   }
 
--- what holds with the switch held, and of b where it has no such switch, holds of the held book
-pub held_cases : (P : Meaning → Type 0) (s : ℕ) (at : Bool) (b : Meaning) → (s < b.switches → P (holding s (hold_of at) b)) → (b.switches ≤ s → P b) → P (held s at b)
-held_cases P s at b in-book past =
-    ⊎_elim (λ l. rw (lt-ltb s b.switches l) (in-book l)) (λ l. rw (le-ltb s b.switches l) (past l)) (cases_lt s b.switches)
-
-pub held_sound : (s : ℕ) (at : Bool) (b : Meaning) (most : ℕ) → Sound most b → Sound most (held s at b)
-held_sound s at b most x = held_cases (Sound most) s at b (λ l. holding_sound s (hold_of at) b most l x) (λ _. x)
+pub under_sound : (hold : Option (ℕ × Bool)) (b : Meaning) (most : ℕ) → Stands hold b → Sound most b → Sound most (under hold b)
+under_sound None b most l x = x
+under_sound (Some h) b most l x = holding_sound h.0 (hold_of h.1) b most (l h refl) x

@@ -1,10 +1,7 @@
-use Rattle.std.proofs.Common.{sym, ap, ◌∙◌}
-use Rattle.guards.specs.Calls.{asked}
-use Rattle.heldbook.proofs.Commutes.{held-asked}
+use Rattle.heldbook.proofs.Commutes.{under_answered}
 use Rattle.heldbook.proofs.HeldGuardBook.ask.Goals as goal
 
 pub returns : goal.returns
 returns g c =
     let x = c.args.self.now in
-    let b = g.B.GuardBook.meaning x.below in
-    c.ask.ensures ∙ ap (asked b c.args.guard) c.put.ensures ∙ sym (held-asked x.switch x.on b _ (g.met.B.GuardBook.sound x.below) c.args.guard c.args.mode)
+    under_answered (g.B.GuardBook.meaning x.below) _ (g.met.B.GuardBook.sound x.below) x.hold x.stands c.ask.result c.args.guard c.args.mode _ c.ask.ensures c.put.ensures
