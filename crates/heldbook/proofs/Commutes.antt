@@ -18,13 +18,6 @@ settled : (f : Meaning → Meaning) (r : Result ℕ Refusal) (x y : Meaning) →
 settled f (Ok n) x y = refl
 settled f (Err e) x y = refl
 
-after-switches : (b : Meaning) (e : Entry) → (after b e).switches ≡ b.switches
-after-switches b e = either_way (answer b e)
-  where
-    either_way : (r : Result ℕ Refusal) → (settle r (with_guard b (entry_says b e)) b).switches ≡ b.switches
-    either_way (Ok n) = refl
-    either_way (Err f) = refl
-
 module _ (s : ℕ) (h : Hold) (b : Meaning) (in-book : s < b.switches) (one_each : length b.holds ≡ b.switches) where
   put-lt : (m : ℕ) → m < modes b → seen (alone s h) m < modes b
   put-lt m l = seen-lt (alone s h) b.switches m (reach s h b in-book) l

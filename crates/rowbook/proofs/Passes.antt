@@ -10,7 +10,8 @@ use Rattle.guards.specs.Calls.{named, entry_says}
 use Rattle.guards.proofs.Bits.{seen-free}
 use Rattle.guards.proofs.Rows.{row_at}
 use Rattle.rowbook.specs.declared.RowBook.{RowBook}
-use Rattle.rowbook.specs.Rows.{with_all, of_rows, says_by}
+use Rattle.rowbook.specs.RowBook.{of_rows}
+use Rattle.rowbook.specs.Rows.{with_all, says_by}
 use Rattle.rowbook.specs.RowsLemmas.{one_more, stays}
 
 switches_stay : (b : Meaning) (es : List Entry) → (with_all b es).switches ≡ b.switches

@@ -7,8 +7,7 @@ use Rattle.guards.specs.declared.entry.Entry.{Entry}
 use Rattle.guards.specs.Meaning.{Meaning, Sound, free, row, modes, with_guard, fresh}
 use Rattle.guards.specs.Calls.{entry_says}
 use Rattle.guards.proofs.Rows.{row_at, row-length}
-use Rattle.rowbook.specs.declared.RowBook.{RowBook}
-use Rattle.rowbook.specs.Rows.{with_all, of_rows}
+use Rattle.rowbook.specs.Rows.{with_all}
 
 module _ (b : Meaning) (f : ℕ → Bool) where
   pub one_more : length (with_guard b f).guards ≡ length b.guards + 1
@@ -55,5 +54,5 @@ all_sound most b (e ∷ es) l x =
     let f = entry_says b e in
     all_sound most (with_guard b f) es (omega (arith, one_more b f)) (with_sound b f most (omega arith) x)
 
-pub sound : (x : RowBook) → Sound 16 (of_rows x)
-sound x = all_sound 16 (fresh x.switches) x.entries.items (omega (arith, x.room)) (fresh_sound 16 x.switches x.few)
+pub rows_sound : (k : ℕ) (es : List Entry) → k ≤ 16 → length es ≤ 63 → Sound 16 (with_all (fresh k) es)
+rows_sound k es few room = all_sound 16 (fresh k) es (omega arith) (fresh_sound 16 k few)

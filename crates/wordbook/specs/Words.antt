@@ -1,7 +1,6 @@
--- What a book of words means. Assumes nothing.
+-- What words mean as guards. Assumes nothing.
 use Rattle.std.specs.Prelude.{◌≡◌, ℕ, ◌^◌, ◌<◌, Bool, List, [], ◌∷◌, map, replicate, slice_index}
 use Rattle.guards.specs.Meaning.{Meaning, free, on_in, row}
-use Rattle.wordbook.specs.declared.WordBook.{WordBook}
 
 -- the row of a word: bit m is the answer in mode m
 abbrev pub word_row : ℕ → ℕ → List Bool
@@ -10,9 +9,6 @@ word_row n w = row n (λ m. on_in m w)
 -- k free switches, and the words as guards
 abbrev pub words_mean : ℕ → List ℕ → Meaning
 words_mean k ws = record { switches = k; holds = replicate k free; guards = map (word_row (2 ^ k)) ws }
-
-abbrev pub of_words : WordBook → Meaning
-of_words x = words_mean x.switches x.words.items
 
 -- the words of the switches 0 to 5
 abbrev pub switch_words : List ℕ

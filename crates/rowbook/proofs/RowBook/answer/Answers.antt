@@ -3,7 +3,7 @@ use Rattle.std.proofs.lemmas.List.{length-take-le, get_or-take, take_more, take_
 use Rattle.guards.specs.declared.entry.Entry.{Entry}
 use Rattle.guards.specs.declared.entry.Entry.TheVariants.{Switch}
 use Rattle.rowbook.specs.declared.RowBook.{RowBook}
-use Rattle.rowbook.specs.Rows.{of_rows}
+use Rattle.rowbook.specs.RowBook.{of_rows}
 use Rattle.rowbook.proofs.Passes.{width, count, length-passed, passed_none, passed_push, passed_says}
 use Rattle.rowbook.proofs.RowBook.answer.Goals as goal
 

@@ -1,6 +1,6 @@
 use Rattle.std.proofs.Common.{ap, ◌∙◌, rules}
 use Rattle.guards.specs.Meaning.{fresh}
-use Rattle.wordbook.specs.WordsLemmas.{fresh_is}
+use Rattle.wordbook.proofs.Words.{fresh_is}
 use Rattle.wordbook.proofs.WordBook.new.Goals as goal
 
 pub returns : goal.returns

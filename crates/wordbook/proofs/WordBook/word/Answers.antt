@@ -4,7 +4,7 @@ use Rattle.sets.proofs.Bits.{bit-bit_and, bit-bit_or, bit_not}
 use Rattle.guards.specs.Meaning.{on_in}
 use Rattle.guards.proofs.Bits.{seen-free}
 use Rattle.guards.proofs.Entries.{both_named}
-use Rattle.wordbook.specs.Words.{of_words}
+use Rattle.wordbook.specs.WordBook.{of_words}
 use Rattle.wordbook.specs.WordsLemmas.{below_64, word_says}
 use Rattle.wordbook.proofs.Switches.{switch_rule}
 use Rattle.wordbook.proofs.WordBook.word.Goals as goal

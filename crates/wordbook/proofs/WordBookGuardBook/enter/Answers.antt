@@ -1,8 +1,8 @@
 use Rattle.guards.specs.Calls.{entry_says}
 use Rattle.guards.proofs.Entries.{entered}
-use Rattle.wordbook.specs.Words.{of_words}
-use Rattle.wordbook.specs.WordsLemmas.{pushed}
-use Rattle.wordbook.proofs.calls.WordBookGuardBook.enter.Goals as goal
+use Rattle.wordbook.specs.WordBook.{of_words}
+use Rattle.wordbook.proofs.Words.{pushed}
+use Rattle.wordbook.proofs.WordBookGuardBook.enter.Goals as goal
 
 pub returns : goal.returns
 returns c =

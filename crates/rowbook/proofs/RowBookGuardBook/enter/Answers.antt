@@ -1,8 +1,8 @@
 use Rattle.guards.proofs.Entries.{accepted, entered}
 use Rattle.guards.specs.Meaning.{fresh}
-use Rattle.rowbook.specs.Rows.{of_rows}
+use Rattle.rowbook.specs.RowBook.{of_rows}
 use Rattle.rowbook.proofs.Passes.{width, count, with_all-append, stands_push}
-use Rattle.rowbook.proofs.calls.RowBookGuardBook.enter.Goals as goal
+use Rattle.rowbook.proofs.RowBookGuardBook.enter.Goals as goal
 
 pub invariant_of-self-clause-stands : goal.invariant_of-self-clause-stands
 invariant_of-self-clause-stands c =

@@ -1,9 +1,9 @@
 use Rattle.std.proofs.Common.{sym}
 use Rattle.sets.specs.Word.{member}
 use Rattle.guards.proofs.Entries.{stands, answered}
-use Rattle.wordbook.specs.Words.{of_words}
+use Rattle.wordbook.specs.WordBook.{of_words}
 use Rattle.wordbook.specs.WordsLemmas.{word_says}
-use Rattle.wordbook.proofs.calls.WordBookGuardBook.ask.Goals as goal
+use Rattle.wordbook.proofs.WordBookGuardBook.ask.Goals as goal
 
 pub returns : goal.returns
 unfolding member
