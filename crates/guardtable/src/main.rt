@@ -51,8 +51,8 @@ fn fill<B: GuardBook>(book: &mut B) -> Result<(), Fault>
 }
 
 // What every guard says in every mode with the switches of `on` put on, guard by guard.
-fn ask_all<B: GuardBook>(heap: Global, book: &B, on: usize) -> anyhow::Result<Vec<bool>> {
-    let mut answers = Vec::new(heap);
+fn ask_all<B: GuardBook>(alloc: Global, book: &B, on: usize) -> anyhow::Result<Vec<bool>> {
+    let mut answers = Vec::new(alloc);
     for guard in 0..book.guards() {
         for mode in 0..book.modes() {
             let answer = book
@@ -72,7 +72,7 @@ fn alike(one: &[bool], other: &[bool]) -> usize
 }
 
 // Fills a new book and tries one guard more.
-fn filled(rt: &HostRuntime) -> anyhow::Result<WordBook> {
+fn filled(rt: &impl Print, alloc: Global) -> anyhow::Result<WordBook> {
     let mut book = WordBook::new(VALVE_SWITCHES);
     let first = book.guards();
     println!(rt; "triple valve: {} switches, {first} guard", book.switches())?;
@@ -81,12 +81,12 @@ fn filled(rt: &HostRuntime) -> anyhow::Result<WordBook> {
     }
     let guards = book.guards();
     println!(rt; "entered {}: {guards} guards", guards.saturating_sub(first))?;
-    let before = ask_all(rt.alloc(), &book, 0)?;
+    let before = ask_all(alloc, &book, 0)?;
     match enter_next(&mut book) {
         Ok(n) => println!(rt; "entered as guard {n}")?,
         Err(fault) => println!(rt; "{fault}")?,
     }
-    let after = ask_all(rt.alloc(), &book, 0)?;
+    let after = ask_all(alloc, &book, 0)?;
     println!(rt;
         "asked again: {} of {} answers as before",
         alike(&before, &after),
@@ -96,11 +96,11 @@ fn filled(rt: &HostRuntime) -> anyhow::Result<WordBook> {
 }
 
 // Asks the same guards with one switch held on.
-fn held(rt: &HostRuntime, book: WordBook) -> anyhow::Result<()> {
-    let free = ask_all(rt.alloc(), &book, 0)?;
-    let on = ask_all(rt.alloc(), &book, 1 << HELD_SWITCH)?;
+fn held(rt: &impl Print, alloc: Global, book: WordBook) -> anyhow::Result<()> {
+    let free = ask_all(alloc, &book, 0)?;
+    let on = ask_all(alloc, &book, 1 << HELD_SWITCH)?;
     let book = Held::new(book, HELD_SWITCH, true);
-    let through = ask_all(rt.alloc(), &book, 0)?;
+    let through = ask_all(alloc, &book, 0)?;
     println!(rt; "switch {HELD_SWITCH} held on: {} guards", book.guards())?;
     println!(rt;
         "asked: {} of {} answers as with the switch on",
@@ -116,6 +116,6 @@ fn held(rt: &HostRuntime, book: WordBook) -> anyhow::Result<()> {
 }
 
 fn main(rt: HostRuntime) -> anyhow::Result<()> {
-    let book = filled(&rt)?;
-    held(&rt, book)
+    let book = filled(&rt, rt.alloc())?;
+    held(&rt, rt.alloc(), book)
 }
