@@ -4,12 +4,11 @@
 ghost use Rattle.std.specs.Prelude.{◌≡◌, ◌+◌, ◌≤◌, true, length, OnOk};
 ghost use Rattle.guards.specs.Calls.{named};
 
-use anyhow::anyhow;
+use anyhow::Context;
 use faults::Fault;
 use guards::{Entry, GuardBook};
 use heldbook::Held;
 use std::alloc::Global;
-use std::io;
 use wordbook::WordBook;
 
 #[cfg(test)]
@@ -34,6 +33,7 @@ fn trial_entry(n: usize) -> Entry
 }
 
 // Enters the next guard of the trial.
+#[tactic(auto, using(guards::proofs::Entries::one_more))]
 fn enter_next<B: GuardBook>(book: &mut B) -> Result<usize, Fault>
     ensures { OnOk result (length (B.meaning book.new).guards ≡ length (B.meaning book.old).guards + 1) }
 {
@@ -51,14 +51,14 @@ fn fill<B: GuardBook>(book: &mut B) -> Result<(), Fault>
 }
 
 // What every guard says in every mode with the switches of `on` put on, guard by guard.
-fn ask_all<B: GuardBook>(heap: Global, book: &B, on: usize) -> anyhow::Result<Vec<bool>> {
-    let mut answers = Vec::new(heap);
+fn ask_all<B: GuardBook>(alloc: Global, book: &B, on: usize) -> anyhow::Result<Vec<bool>> {
+    let mut answers = Vec::new(alloc);
     for guard in 0..book.guards() {
         for mode in 0..book.modes() {
-            match book.ask(guard, mode | on) {
-                Ok(answer) => answers.push(answer)?,
-                Err(_) => return Err(anyhow!("a standing guard was not answered")),
-            }
+            let answer = book
+                .ask(guard, mode | on)
+                .context("a standing guard was not answered")?;
+            answers.push(answer)?;
         }
     }
     Ok(answers)
@@ -68,35 +68,25 @@ fn ask_all<B: GuardBook>(heap: Global, book: &B, on: usize) -> anyhow::Result<Ve
 fn alike(one: &[bool], other: &[bool]) -> usize
     ensures { result ≤ length one.now }
 {
-    let mut count = 0;
-    for (i, answer) in one.iter().enumerate() {
-        if other.get(i) == Some(answer) {
-            count += 1;
-        }
-    }
-    count
-}
-
-fn print_refusal(rt: &HostRuntime, fault: Fault) -> io::Result<()> {
-    println!(rt; "refused {} by the {}", fault.number(), fault.layer())
+    one.iter().zip(other).filter(|(a, b)| a == b).count()
 }
 
 // Fills a new book and tries one guard more.
-fn filled(rt: &HostRuntime) -> anyhow::Result<WordBook> {
+fn filled(rt: &impl Print, alloc: Global) -> anyhow::Result<WordBook> {
     let mut book = WordBook::new(VALVE_SWITCHES);
     let first = book.guards();
     println!(rt; "triple valve: {} switches, {first} guard", book.switches())?;
     if let Err(fault) = fill(&mut book) {
-        print_refusal(rt, fault)?;
+        println!(rt; "{fault}")?;
     }
     let guards = book.guards();
     println!(rt; "entered {}: {guards} guards", guards.saturating_sub(first))?;
-    let before = ask_all(rt.alloc(), &book, 0)?;
+    let before = ask_all(alloc, &book, 0)?;
     match enter_next(&mut book) {
         Ok(n) => println!(rt; "entered as guard {n}")?,
-        Err(fault) => print_refusal(rt, fault)?,
+        Err(fault) => println!(rt; "{fault}")?,
     }
-    let after = ask_all(rt.alloc(), &book, 0)?;
+    let after = ask_all(alloc, &book, 0)?;
     println!(rt;
         "asked again: {} of {} answers as before",
         alike(&before, &after),
@@ -106,11 +96,11 @@ fn filled(rt: &HostRuntime) -> anyhow::Result<WordBook> {
 }
 
 // Asks the same guards with one switch held on.
-fn held(rt: &HostRuntime, book: WordBook) -> anyhow::Result<()> {
-    let free = ask_all(rt.alloc(), &book, 0)?;
-    let on = ask_all(rt.alloc(), &book, 1 << HELD_SWITCH)?;
+fn held(rt: &impl Print, alloc: Global, book: WordBook) -> anyhow::Result<()> {
+    let free = ask_all(alloc, &book, 0)?;
+    let on = ask_all(alloc, &book, 1 << HELD_SWITCH)?;
     let book = Held::new(book, HELD_SWITCH, true);
-    let through = ask_all(rt.alloc(), &book, 0)?;
+    let through = ask_all(alloc, &book, 0)?;
     println!(rt; "switch {HELD_SWITCH} held on: {} guards", book.guards())?;
     println!(rt;
         "asked: {} of {} answers as with the switch on",
@@ -125,11 +115,7 @@ fn held(rt: &HostRuntime, book: WordBook) -> anyhow::Result<()> {
     Ok(())
 }
 
-fn run(rt: &HostRuntime) -> anyhow::Result<()> {
-    let book = filled(rt)?;
-    held(rt, book)
-}
-
 fn main(rt: HostRuntime) -> anyhow::Result<()> {
-    run(&rt)
+    let book = filled(&rt, rt.alloc())?;
+    held(&rt, rt.alloc(), book)
 }

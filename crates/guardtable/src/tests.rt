@@ -8,10 +8,7 @@ use std::test::Fail;
 
 // 0, or the number of the refusal.
 fn refusal<T: Drop>(answer: Result<T, Fault>) -> u8 {
-    match answer {
-        Ok(_) => 0,
-        Err(fault) => fault.number(),
-    }
+    answer.err().map_or(0, |fault| fault.number())
 }
 
 fn ends_at_64<B: GuardBook + Drop>(rt: &impl Abort, mut book: B) {

@@ -1,26 +1,27 @@
 // A guard book over any other, with one of its switches held on or off.
 #![tactic(auto)]
 
-ghost use Rattle.std.specs.Prelude.{◌≡◌, ◌<◌, nat_le};
+ghost use Rattle.std.specs.Prelude.{◌≡◌, nat_le};
 ghost use Rattle.faults.specs.declared.Fault.TheVariants.{NoSuchSwitch};
 ghost use Rattle.faults.specs.Refusals.{bare};
-ghost use Rattle.guards.specs.Meaning.{seen};
-ghost use Rattle.heldbook.specs.Held.{alone, held, hold_of, of_held, put_mode};
-ghost use Rattle.heldbook.specs.Over.{held_sound};
+ghost use Rattle.heldbook.specs.Holding.{Stands, held, put_mode};
+ghost use Rattle.heldbook.specs.Over.{under_sound};
 ghost use Rattle.std.proofs.Common.{rules};
 
 use faults::Fault;
 use guards::{Entry, GuardBook};
 
-// holds nothing where the book below has no such switch
+// holds a switch of the book below on or off, or nothing
 #[derive(Drop)]
 pub struct Held<B: GuardBook> {
     below: B,
-    switch: usize,
-    on: bool,
+    hold: Option<(usize, bool)>,
+    ghost stands: { Stands hold (B.meaning below) },
 }
 
 impl<B: GuardBook> Held<B> {
+    ghost use Rattle.heldbook.specs.Held.{of_held};
+
     // 0, or the number of the refusal where the book has no such switch.
     pub fn check_switch(below: &B, switch: usize) -> u8
         ensures { result ≡ bare (nat_le (B.meaning below.now).switches switch) NoSuchSwitch }
@@ -34,47 +35,39 @@ impl<B: GuardBook> Held<B> {
 
     // Holds a switch of the book below; nothing where `check_switch` would refuse it.
     pub fn new(below: B, switch: usize, on: bool) -> Self
-        ensures { of_held B.meaning result ≡ held switch on (B.meaning below) }
+        ensures { of_held result ≡ held switch on (B.meaning below) }
     {
-        Held { below, switch, on }
+        let hold = (switch < below.switches()).then_some((switch, on));
+        Held { below, hold }
     }
 
     // A mode with the switch put where it is held.
     fn put(&self, mode: usize) -> usize
-        ensures { result ≡ put_mode self.now.switch self.now.on (B.meaning self.now.below) mode }
+        ensures { result ≡ put_mode self.now.hold mode }
     {
-        if self.switch >= self.below.switches() {
+        let Some((switch, on)) = self.hold else {
             return mode;
+        };
+        if on {
+            mode | (1 << switch)
+        } else {
+            mode & !(1 << switch)
         }
-        put_switch(self.switch, self.on, mode)
-    }
-}
-
-fn put_switch(switch: usize, on: bool, mode: usize) -> usize
-    requires { switch < 64 }
-    ensures { result ≡ seen (alone switch (hold_of on)) mode }
-{
-    if on {
-        mode | (1 << switch)
-    } else {
-        mode & !(1 << switch)
     }
 }
 
 impl<B: GuardBook> GuardBook for Held<B> {
-    ghost meaning = { λ x. of_held B.GuardBook.meaning x };
+    ghost use Rattle.heldbook.specs.Held.{of_held};
+
+    ghost meaning = { of_held };
 
     const MOST_SWITCHES: usize = B::MOST_SWITCHES;
 
-    ghost most = { B.GuardBook.most };
+    ghost MOST_SWITCHES = { B.GuardBook.MOST_SWITCHES };
 
     ghost most_bound = { Prim.search rules };
 
-    ghost sound = { λ x. held_sound x.switch x.on (B.GuardBook.meaning x.below) _ (B.GuardBook.sound x.below) };
-
-    fn limit() -> usize {
-        B::limit()
-    }
+    ghost sound = { λ x. under_sound x.hold (B.GuardBook.meaning x.below) _ x.stands (B.GuardBook.sound x.below) };
 
     fn switches(&self) -> usize {
         self.below.switches()

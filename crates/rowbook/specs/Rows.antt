@@ -1,18 +1,14 @@
--- What a book of kept entries means. Assumes nothing.
-use Rattle.std.specs.Prelude.{ℕ, Bool, false, not, ◌&&◌, ◌||◌, List, [], ◌∷◌, take, slice_index_or}
+-- What kept entries mean as guards. Assumes nothing.
+use Rattle.std.specs.Prelude.{ℕ, Bool, false, not, ◌&&◌, ◌||◌, List, [], ◌∷◌, slice_index_or}
 use Rattle.guards.specs.declared.entry.Entry.{Entry}
 use Rattle.guards.specs.declared.entry.Entry.TheVariants.{Switch, Not, Both, Either}
-use Rattle.guards.specs.Meaning.{Meaning, on_in, with_guard, fresh}
+use Rattle.guards.specs.Meaning.{Meaning, on_in, with_guard}
 use Rattle.guards.specs.Calls.{entry_says}
-use Rattle.rowbook.specs.declared.RowBook.{RowBook}
 
 -- a book with the guards of the entries es added, one after the other
 abbrev pub with_all : Meaning → List Entry → Meaning
 with_all b [] = b
 with_all b (e ∷ es) = with_all (with_guard b (entry_says b e)) es
-
-abbrev pub of_rows : RowBook → Meaning
-of_rows x = with_all (fresh x.switches) (take x.last x.entries)
 
 -- for a private function: what an entry says in the mode m where all switches are free, by the answers of the guards in that mode
 abbrev pub says_by : List Bool → Entry → ℕ → Bool

@@ -1,20 +1,14 @@
--- What a book of words means. Assumes nothing.
-use Rattle.std.specs.Prelude.{◌≡◌, ℕ, ◌+◌, ◌-◌, ◌^◌, ◌<◌, Bool, List, [], ◌∷◌, map, take, replicate, bit_and, bit_or, slice_index}
-use Rattle.guards.specs.declared.entry.Entry.{Entry}
-use Rattle.guards.specs.declared.entry.Entry.TheVariants.{Switch, Not, Both, Either}
+-- What words mean as guards. Assumes nothing.
+use Rattle.std.specs.Prelude.{◌≡◌, ℕ, ◌^◌, ◌<◌, Bool, List, [], ◌∷◌, map, replicate, slice_index}
 use Rattle.guards.specs.Meaning.{Meaning, free, on_in, row}
-use Rattle.wordbook.specs.declared.WordBook.{WordBook}
 
 -- the row of a word: bit m is the answer in mode m
 abbrev pub word_row : ℕ → ℕ → List Bool
 word_row n w = row n (λ m. on_in m w)
 
--- k free switches, and the first n words as guards
-abbrev pub words_mean : ℕ → ℕ → List ℕ → Meaning
-words_mean k n ws = record { switches = k; holds = replicate k free; guards = map (word_row (2 ^ k)) (take n ws) }
-
-abbrev pub of_words : WordBook → Meaning
-of_words x = words_mean x.switches (x.last + 1) x.words
+-- k free switches, and the words as guards
+abbrev pub words_mean : ℕ → List ℕ → Meaning
+words_mean k ws = record { switches = k; holds = replicate k free; guards = map (word_row (2 ^ k)) ws }
 
 -- the words of the switches 0 to 5
 abbrev pub switch_words : List ℕ
@@ -23,10 +17,3 @@ switch_words = 0xAAAA_AAAA_AAAA_AAAA ∷ 0xCCCC_CCCC_CCCC_CCCC ∷ 0xF0F0_F0F0_F
 -- bit m of the word of switch s is bit s of m
 abbrev pub SwitchWordsRule : Type 0
 SwitchWordsRule = (s : ℕ) → s < 6 → (m : ℕ) → m < 64 → on_in m (slice_index switch_words s) ≡ on_in s m
-
--- for a private function: the word of an entry, by the words of the guards
-abbrev pub entry_word : List ℕ → Entry → ℕ
-entry_word ws (Switch s) = slice_index switch_words s
-entry_word ws (Not g) = (2 ^ 64 - 1) - slice_index ws g
-entry_word ws (Both g h) = bit_and (slice_index ws g) (slice_index ws h)
-entry_word ws (Either g h) = bit_or (slice_index ws g) (slice_index ws h)

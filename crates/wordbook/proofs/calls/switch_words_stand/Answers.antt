@@ -1,5 +1,0 @@
-use Rattle.wordbook.specs.Switches.{switch_rule}
-use Rattle.wordbook.proofs.calls.switch_words_stand.Goals as goal
-
-pub returns : goal.returns
-returns c = switch_rule
