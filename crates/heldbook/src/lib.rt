@@ -26,11 +26,7 @@ impl<B: GuardBook> Held<B> {
     pub fn check_switch(below: &B, switch: usize) -> u8
         ensures { result ≡ bare (nat_le (B.meaning below.now).switches switch) NoSuchSwitch }
     {
-        if switch >= below.switches() {
-            Fault::NoSuchSwitch.number()
-        } else {
-            0
-        }
+        Fault::NoSuchSwitch.number_if(switch >= below.switches())
     }
 
     // Holds a switch of the book below; nothing where `check_switch` would refuse it.
