@@ -34,15 +34,6 @@ fn numbers(fault: FileFault) -> (u8, usize) {
     (fault.fault.number(), fault.record.unwrap_or(0))
 }
 
-// A file of two records.
-fn file_of(header: [u8; 8], one: [u8; 8], two: [u8; 8]) -> [u8; 24] {
-    let mut bytes = [0; 24];
-    bytes[..8].copy_from_slice(&header);
-    bytes[8..16].copy_from_slice(&one);
-    bytes[16..].copy_from_slice(&two);
-    bytes
-}
-
 // One switch, two equations, two variables.
 const HEADER: [u8; 8] = [0, 1, 1, 2, 2, 0, 0, 0];
 
@@ -189,7 +180,7 @@ fn chains_of_two_records(rt: HostRuntime) {
         ),
     ];
     for (one, two, expected) in rows {
-        assert_eq!(rt; met(&file_of(HEADER, one, two)), expected);
+        assert_eq!(rt; met([HEADER, one, two].as_flattened()), expected);
     }
 }
 
@@ -207,11 +198,11 @@ fn unused_bytes_are_zero_in_each_letter(rt: HostRuntime) {
     ];
     for (letter, first_unused) in rows {
         let plain = [0, 2, letter, 0, 0, 0, 0, 0];
-        assert_eq!(rt; met(&file_of(HEADER, plain, LAST)), (0, 0));
+        assert_eq!(rt; met([HEADER, plain, LAST].as_flattened()), (0, 0));
         for at in 4..8 {
             let mut one = plain;
             one[at] = 1;
-            let number = met(&file_of(HEADER, one, LAST)).0;
+            let number = met([HEADER, one, LAST].as_flattened()).0;
             assert_eq!(rt; number == 4, at >= first_unused);
         }
     }
@@ -238,7 +229,10 @@ fn records_before_a_refused_one_stand(rt: HostRuntime) -> Result<(), Fail> {
 fn a_refused_file_prints_its_refusal_alone(rt: HostRuntime) -> Result<(), Fail> {
     let one = [0, 2, b'O', 1, 1, 15, 0, 0];
     let mut out = Vec::new(rt.alloc());
-    show(&mut out, &file_of(HEADER, one, [0, 0, b'V', 2, 0, 0, 0, 0]))?;
+    show(
+        &mut out,
+        [HEADER, one, [0, 0, b'V', 2, 0, 0, 0, 0]].as_flattened(),
+    )?;
     assert_eq!(rt; out.as_slice(), b"refused 10 record 2\n".as_slice());
     Ok(())
 }
