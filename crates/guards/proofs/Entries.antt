@@ -4,7 +4,7 @@ use Rattle.std.proofs.lemmas.List.{length-append}
 use Rattle.std.proofs.lemmas.Bool.{lt-ltb, ltb-true, and_parts}
 use Rattle.faults.specs.declared.Fault.{Fault}
 use Rattle.faults.specs.declared.Fault.TheVariants.{NoSuchGuard, GuardsFull, NoSuchMode}
-use Rattle.faults.specs.Refusals.{Refusal, refusal, told}
+use Rattle.faults.specs.Refusals.{Refusal, told}
 use Rattle.guards.specs.declared.entry.Entry.{Entry}
 use Rattle.guards.specs.Meaning.{Meaning, says, modes, row, with_guard}
 use Rattle.guards.specs.Calls.{named, missing, provided, settle, answer, entry_says, found, asked, Entered}
@@ -31,15 +31,9 @@ module _ (b : Meaning) where
       let q = passed (ltb n 64) GuardsFull (Ok n) x p.1 in
       record { names = p.0; space = ltb-true n 64 q.0; number = let o = q.1 in cc }
 
-  settled : (e : Entry) (r : Result ℕ Fault) → told r ≡ answer b e → settle (told r) (with_guard b (entry_says b e)) b ≡ settle (answer b e) (with_guard b (entry_says b e)) b
-  settled e r a = ap (λ o. settle o (with_guard b (entry_says b e)) b) a
-
-  -- an accepted entry adds its guard, and a refused one none
+  -- an accepted entry adds its guard
   pub entered : (e : Entry) (x : ℕ) (new : Meaning) → told (Ok x) ≡ answer b e → new ≡ with_guard b (entry_says b e) → Entered b e (Ok x) new
-  entered e x new a o = record { given = a; left = o ∙ settled e (Ok x) a }
-
-  pub refused : (e : Entry) (f : Fault) → told {A = ℕ} (Err f) ≡ answer b e → Entered b e (Err f) b
-  refused e f a = record { given = a; left = settled e (Err f) a }
+  entered e x new a o = record { given = a; left = o ∙ ap (λ r. settle r (with_guard b (entry_says b e)) b) a }
 
   -- the guard and the mode of a question stand
   pub record Found (g m : ℕ) : Type 0 where
@@ -54,14 +48,6 @@ module _ (b : Meaning) where
 
   pub answered : (g m : ℕ) (y : Bool) → Found g m → y ≡ says b g m → told (Ok y) ≡ asked b g m
   answered g m y f e = ap (λ v. Ok v) e ∙ sym (rw (lt-ltb g (length b.guards) f.guard, lt-ltb m (modes b) f.mode) refl)
-
-  pub not_found : (g m : ℕ) (f : Fault) → Err (refusal f) ≡ found b g m → told {A = Bool} (Err f) ≡ asked b g m
-  not_found g m f = either_way (ltb g (length b.guards)) (ltb m (modes b))
-    where
-      either_way : (s t : Bool) → ◌≡◌ {A = Result (Unit {0}) Refusal} (Err (refusal f)) (provided s NoSuchGuard (provided t NoSuchMode (Ok tt))) → Err (refusal f) ≡ provided s NoSuchGuard (provided t NoSuchMode (Ok (says b g m)))
-      either_way true true e = absurd (let z : ◌≡◌ {A = ℕ} 0 1 = cc in omega arith)
-      either_way true false e = let z : refusal f ≡ refusal NoSuchMode = cc in ap Err z
-      either_way false t e = let z : refusal f ≡ refusal NoSuchGuard = cc in ap Err z
 
 -- an accepted entry makes the guards one more
 pub one_more : (b : Meaning) (e : Entry) (r : Result ℕ Fault) (x : Meaning) → Entered b e r x → IfOk r (λ _. length x.guards ≡ length b.guards + 1)

@@ -1,13 +1,9 @@
 -- One step along a chain. Assumes nothing.
-use Rattle.std.proofs.Common.{◌≡◌, ℕ, ◌+◌, ◌-◌, ◌*◌, ◌≤◌, List, [], ◌∷◌, take, drop, sym, ap, ◌∙◌, subst, arith}
+use Rattle.std.proofs.Common.{◌≡◌, ℕ, ◌+◌, ◌-◌, ◌*◌, ◌≤◌, List, ◌∷◌, take, drop, sym, ap, ◌∙◌, subst, arith}
 use Rattle.sheetfile.specs.Format.{count_of, part_of, next_of}
 use Rattle.sheetfile.specs.Opening.{Chain, done, link}
 use Rattle.sheetfile.specs.Reader.{rest_from}
 use Rattle.sheetfile.proofs.Judges.{rest_is}
-
--- nothing is to come from zero
-pub rest_none : (f : List ℕ) (p : ℕ) → p ≡ 0 → rest_from f p ≡ []
-rest_none f p e = rest_is f p [] (subst (λ n. Chain f n []) (sym e) done)
 
 -- from the number n of a record, that record comes next, and then what comes from q
 pub record Steps (f : List ℕ) (n q : ℕ) : Type 0 where
