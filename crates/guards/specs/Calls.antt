@@ -53,10 +53,14 @@ pub record Entered (b : Meaning) (e : Entry) (r : Result ℕ Fault) (x : Meaning
   pub given : told r ≡ answer b e
   pub left : x ≡ after b e
 
+-- goes on where the guard and the mode of a question stand
+abbrev pub questioned : {A : Type 0} → Meaning → ℕ → ℕ → Result A Refusal → Result A Refusal
+questioned b g m next = provided (nat_lt g (length b.guards)) NoSuchGuard (provided (nat_lt m (modes b)) NoSuchMode next)
+
 -- what a question answers
 abbrev pub asked : Meaning → ℕ → ℕ → Result Bool Refusal
-asked b g m = provided (nat_lt g (length b.guards)) NoSuchGuard (provided (nat_lt m (modes b)) NoSuchMode (Ok (says b g m)))
+asked b g m = questioned b g m (Ok (says b g m))
 
 -- whether the guard and the mode of a question stand
 abbrev pub found : Meaning → ℕ → ℕ → Result (Unit {0}) Refusal
-found b g m = provided (nat_lt g (length b.guards)) NoSuchGuard (provided (nat_lt m (modes b)) NoSuchMode (Ok tt))
+found b g m = questioned b g m (Ok tt)

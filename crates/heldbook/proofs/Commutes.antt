@@ -1,5 +1,5 @@
 -- A held book commutes with entries and questions of the book below. Assumes nothing.
-use Rattle.std.proofs.Common.{◌≡◌, ℕ, ◌<◌, Bool, false, not, List, [], ◌∷◌, ◌++◌, map, length, get_or, Option, Some, None, Ok, Err, Result, sym, refl, ap, ◌∙◌, ⊎_elim, arith}
+use Rattle.std.proofs.Common.{◌≡◌, ℕ, ◌<◌, ◌≤◌, Bool, false, not, List, [], ◌∷◌, ◌++◌, map, length, get_or, Option, Some, None, Ok, Err, Result, sym, refl, ap, ◌∙◌, subst, ⊎_elim, arith}
 use Rattle.std.proofs.lemmas.List.{map-append}
 use Rattle.std.proofs.lemmas.Bool.{lt-ltb, le-ltb, cases_lt}
 use Rattle.faults.specs.declared.Fault.{Fault}
@@ -10,8 +10,8 @@ use Rattle.guards.specs.Meaning.{Meaning, Sound, Hold, seen, row, modes, with_gu
 use Rattle.guards.specs.Calls.{entry_says, answer, settle, after, asked, Entered}
 use Rattle.guards.proofs.Bits.{seen-lt, seen-ge}
 use Rattle.guards.proofs.Rows.{row_at, row_same}
-use Rattle.heldbook.specs.Holding.{hold_of, alone, held_row, holding, under, put_mode, Stands}
-use Rattle.heldbook.specs.Over.{rows_say, held_count, reach}
+use Rattle.heldbook.specs.Held.{hold_of, alone, held_row, holding, held, under, put_mode, mode_put}
+use Rattle.heldbook.specs.Over.{rows_say, held_count, reach, held_in, held_out}
 use Rattle.heldbook.proofs.Put.{seen-put}
 
 settled : (f : Meaning → Meaning) (r : Result ℕ Refusal) (x y : Meaning) → settle r (f x) (f y) ≡ f (settle r x y)
@@ -53,30 +53,54 @@ module _ (s : ℕ) (h : Hold) (b : Meaning) (in-book : s < b.switches) (one_each
       (λ l. rw (le-ltb m (modes b) l, le-ltb (seen (alone s h) m) (modes b) (seen-ge (alone s h) b.switches m (reach s h b in-book) l)) refl)
       (cases_lt m (modes b)))
 
-pub under-switches : (hold : Option (ℕ × Bool)) (b : Meaning) → (under hold b).switches ≡ b.switches
-under-switches None b = refl
-under-switches (Some h) b = refl
+pub after-switches : (b : Meaning) (e : Entry) → (after b e).switches ≡ b.switches
+after-switches b e = either_way (answer b e)
+  where
+    either_way : (r : Result ℕ Refusal) → (settle r (with_guard b (entry_says b e)) b).switches ≡ b.switches
+    either_way (Ok n) = refl
+    either_way (Err f) = refl
 
-pub under_guards : (hold : Option (ℕ × Bool)) (b : Meaning) → length (under hold b).guards ≡ length b.guards
-under_guards None b = refl
-under_guards (Some h) b = held_count h.0 (hold_of h.1) b
+module _ (s : ℕ) (at : Bool) (b : Meaning) (most : ℕ) (x : Sound most b) where
+  -- a fact of books that stands of b and of b with the switch held
+  either : (P : Meaning → Type 0) → (s < b.switches → P (holding s (hold_of at) b)) → (b.switches ≤ s → P b) → P (held s at b)
+  either P i o = ⊎_elim (λ l. subst P (sym (held_in s at b l)) (i l)) (λ l. subst P (sym (held_out s at b l)) (o l)) (cases_lt s b.switches)
+
+  pub held-switches : (held s at b).switches ≡ b.switches
+  held-switches = either (λ y. y.switches ≡ b.switches) (λ _. refl) (λ _. refl)
+
+  pub held_guards : length (held s at b).guards ≡ length b.guards
+  held_guards = either (λ y. length y.guards ≡ length b.guards) (λ _. held_count s (hold_of at) b) (λ _. refl)
+
+  pub held_answers : (e : Entry) → answer (held s at b) e ≡ answer b e
+  held_answers e = rw (held-switches, held_guards) refl
+
+  pub held_after : (e : Entry) → after (held s at b) e ≡ held s at (after b e)
+  held_after e =
+      let k = after-switches b e in
+      either (λ y. after y e ≡ held s at (after b e))
+      (λ l. holding-after s (hold_of at) b l x.one_each e ∙ sym (held_in s at (after b e) (omega arith)))
+      (λ l. sym (held_out s at (after b e) (omega arith)))
+
+  pub held-asked : (g m : ℕ) → asked (held s at b) g m ≡ asked b g (put_mode s at b m)
+  held-asked g m =
+      either (λ y. asked y g m ≡ asked b g (put_mode s at b m))
+      (λ l. rw (lt-ltb s b.switches l) (holding-asked s (hold_of at) b l x.one_each g m))
+      (λ l. rw (le-ltb s b.switches l) refl)
+
+pub under_guards : (hold : Option (ℕ × Bool)) (b : Meaning) (most : ℕ) → Sound most b → length (under hold b).guards ≡ length b.guards
+under_guards None b most x = refl
+under_guards (Some h) b most x = held_guards h.0 h.1 b most x
 
 module _ (b : Meaning) (most : ℕ) (x : Sound most b) where
-  under-after : (hold : Option (ℕ × Bool)) → Stands hold b → (e : Entry) → after (under hold b) e ≡ under hold (after b e)
-  under-after None l e = refl
-  under-after (Some h) l e = holding-after h.0 (hold_of h.1) b (l h refl) x.one_each e
-
   -- an entry into the book below is that entry into the held book
-  pub under_entered : (hold : Option (ℕ × Bool)) → Stands hold b → (e : Entry) (r : Result ℕ Fault) (y : Meaning) → Entered b e r y → Entered (under hold b) e r (under hold y)
-  under_entered hold l e r y below = record {
-    given = below.given ∙ sym (rw (under-switches hold b, under_guards hold b) refl);
-    left = ap (under hold) below.left ∙ sym (under-after hold l e);
+  pub under_entered : (hold : Option (ℕ × Bool)) (e : Entry) (r : Result ℕ Fault) (y : Meaning) → Entered b e r y → Entered (under hold b) e r (under hold y)
+  under_entered None e r y below = below
+  under_entered (Some h) e r y below = record {
+    given = below.given ∙ sym (held_answers h.0 h.1 b most x e);
+    left = ap (held h.0 h.1) below.left ∙ sym (held_after h.0 h.1 b most x e);
   }
 
-  under-asked : (hold : Option (ℕ × Bool)) → Stands hold b → (g m : ℕ) → asked (under hold b) g m ≡ asked b g (put_mode hold m)
-  under-asked None l g m = refl
-  under-asked (Some h) l g m = holding-asked h.0 (hold_of h.1) b (l h refl) x.one_each g m
-
   -- what the book below answers in the put mode is what the held book answers
-  pub under_answered : (hold : Option (ℕ × Bool)) → Stands hold b → (r : Result Bool Fault) (g m m' : ℕ) → told r ≡ asked b g m' → m' ≡ put_mode hold m → told r ≡ asked (under hold b) g m
-  under_answered hold l r g m m' below put = below ∙ ap (asked b g) put ∙ sym (under-asked hold l g m)
+  pub under_answered : (hold : Option (ℕ × Bool)) (r : Result Bool Fault) (g m m' : ℕ) → told r ≡ asked b g m' → m' ≡ mode_put hold b m → told r ≡ asked (under hold b) g m
+  under_answered None r g m m' below put = below ∙ ap (asked b g) put
+  under_answered (Some h) r g m m' below put = below ∙ ap (asked b g) put ∙ sym (held-asked h.0 h.1 b most x g m)

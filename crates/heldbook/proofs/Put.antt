@@ -6,7 +6,7 @@ use Rattle.std.specs.Int.Bits.{and_step, or_step, or_zero_r}
 use Rattle.std.proofs.lemmas.Nat.{pow_below, pow_pos, and_mask}
 use Rattle.guards.specs.Meaning.{Hold, free, off, on, lowest, seen}
 use Rattle.guards.proofs.Bits.{low_lt}
-use Rattle.heldbook.specs.Holding.{alone, over}
+use Rattle.heldbook.specs.Held.{alone, over}
 
 pub put_on : (s m : ℕ) → bit_or m (2 ^ s) ≡ seen (alone s on) m
 put_on zero m = let z = or_zero_r (m / 2) in omega (arith, or_step m 1)

@@ -4,24 +4,34 @@
 ghost use Rattle.std.specs.Prelude.{◌≡◌, nat_le};
 ghost use Rattle.faults.specs.declared.Fault.TheVariants.{NoSuchSwitch};
 ghost use Rattle.faults.specs.Refusals.{bare};
-ghost use Rattle.heldbook.specs.Holding.{Stands, held, put_mode};
+ghost use Rattle.heldbook.specs.Held.{held, of_held, mode_put};
 ghost use Rattle.heldbook.specs.Over.{under_sound};
 ghost use Rattle.std.proofs.Common.{rules};
 
 use faults::Fault;
 use guards::{Entry, GuardBook};
+use std::marker::Model;
 
 // holds a switch of the book below on or off, or nothing
+// seen as its hold and the book below
 #[derive(Drop)]
 pub struct Held<B: GuardBook> {
     below: B,
     hold: Option<(usize, bool)>,
-    ghost stands: { Stands hold (B.meaning below) },
+}
+
+impl<B: GuardBook> Model for Held<B> {
+    ghost use Rattle.std.specs.Prelude.{ℕ, Bool, Option};
+    ghost use Rattle.heldbook.specs.Held.{Stands};
+
+    ghost Value = { Option (ℕ × Bool) × B };
+
+    ghost view = { λ x. (x.hold, x.below) };
+
+    ghost invariant = { λ x. Stands x.hold (B.GuardBook.meaning x.below) };
 }
 
 impl<B: GuardBook> Held<B> {
-    ghost use Rattle.heldbook.specs.Held.{of_held};
-
     // 0, or the number of the refusal where the book has no such switch.
     pub fn check_switch(below: &B, switch: usize) -> u8
         ensures { result ≡ bare (nat_le (B.meaning below.now).switches switch) NoSuchSwitch }
@@ -31,7 +41,7 @@ impl<B: GuardBook> Held<B> {
 
     // Holds a switch of the book below; nothing where `check_switch` would refuse it.
     pub fn new(below: B, switch: usize, on: bool) -> Self
-        ensures { of_held result ≡ held switch on (B.meaning below) }
+        ensures { of_held B.meaning result ≡ held switch on (B.meaning below) }
     {
         let hold = (switch < below.switches()).then_some((switch, on));
         Held { below, hold }
@@ -39,7 +49,7 @@ impl<B: GuardBook> Held<B> {
 
     // A mode with the switch put where it is held.
     fn put(&self, mode: usize) -> usize
-        ensures { result ≡ put_mode self.now.hold mode }
+        ensures { result ≡ mode_put self.now.0 (B.meaning self.now.1) mode }
     {
         let Some((switch, on)) = self.hold else {
             return mode;
@@ -53,9 +63,7 @@ impl<B: GuardBook> Held<B> {
 }
 
 impl<B: GuardBook> GuardBook for Held<B> {
-    ghost use Rattle.heldbook.specs.Held.{of_held};
-
-    ghost meaning = { of_held };
+    ghost meaning = { λ x. of_held B.GuardBook.meaning x };
 
     const MOST_SWITCHES: usize = B::MOST_SWITCHES;
 
@@ -63,7 +71,7 @@ impl<B: GuardBook> GuardBook for Held<B> {
 
     ghost most_bound = { Prim.search rules };
 
-    ghost sound = { λ x. under_sound x.hold (B.GuardBook.meaning x.below) _ x.stands (B.GuardBook.sound x.below) };
+    ghost sound = { λ x. under_sound x.0 (B.GuardBook.meaning x.1) _ (B.GuardBook.sound x.1) };
 
     fn switches(&self) -> usize {
         self.below.switches()

@@ -23,11 +23,8 @@ fn issued<B: GuardBook + Drop>(file: SheetFile, book: B) -> Result<Issued<B>, Fi
 
 // The name of a column or a row, five characters wide.
 fn print_name<W: Write>(out: &mut W, letter: char, n: usize) -> io::Result<()> {
-    if n < 10 {
-        write!(out, "   {letter}{n}")
-    } else {
-        write!(out, "  {letter}{n}")
-    }
+    let width = if n < 10 { 4 } else { 3 };
+    write!(out, "{letter:>width$}{n}")
 }
 
 fn print_header<W: Write>(out: &mut W, variables: u64) -> io::Result<()> {
@@ -35,7 +32,7 @@ fn print_header<W: Write>(out: &mut W, variables: u64) -> io::Result<()> {
     for j in (0..64).filter(|&j| has(variables, j)) {
         print_name(out, 'v', j)?;
     }
-    writeln!(out, "")
+    writeln!(out)
 }
 
 // The orders of an equation, a dot where a place is empty.
@@ -47,7 +44,7 @@ fn print_row<W: Write>(out: &mut W, table: &Table, equation: usize) -> io::Resul
             None => write!(out, "    .")?,
         }
     }
-    writeln!(out, "")
+    writeln!(out)
 }
 
 // A row for each active equation and a column for each active variable.
@@ -103,15 +100,11 @@ fn show<W: Write>(out: &mut W, bytes: &[u8]) -> io::Result<()> {
     }
 }
 
-fn run(rt: &HostRuntime) -> anyhow::Result<()> {
+fn main(rt: HostRuntime) -> anyhow::Result<()> {
     let mut bytes = Vec::new(rt.alloc());
     rt.stdin().read_to_end(&mut bytes)?;
     let mut out = BufWriter::new(rt.alloc(), rt.stdout())?;
     show(&mut out, &bytes)?;
     out.flush()?;
     Ok(())
-}
-
-fn main(rt: HostRuntime) -> anyhow::Result<()> {
-    run(&rt)
 }

@@ -10,10 +10,7 @@ use wordbook::WordBook;
 
 // 0, or the number of the refusal.
 fn refusal<T: Drop>(answer: Result<T, Fault>) -> u8 {
-    match answer {
-        Ok(_) => 0,
-        Err(fault) => fault.number(),
-    }
+    answer.err().map_or(0, |fault| fault.number())
 }
 
 // The number of the refusal that a file meets, and its record.

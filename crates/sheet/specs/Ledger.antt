@@ -1,5 +1,5 @@
 -- The ledger of a sheet. Assumes nothing.
-use Rattle.std.specs.Prelude.{ℕ, List}
+use Rattle.std.specs.Prelude.{ℕ, ◌≤◌, List, length}
 use Rattle.guards.specs.Meaning.{Meaning}
 use Rattle.reading.specs.declared.occurrence.Occurrence.{Occurrence}
 
@@ -10,3 +10,9 @@ pub record Ledger : Type 0 where
   pub variables : List ℕ
   pub occurrences : List Occurrence
   pub assumed : ℕ
+
+-- the bounds of every sheet
+pub record Bounded (l : Ledger) : Type 0 where
+  pub equations : length l.equations ≤ 64
+  pub variables : length l.variables ≤ 64
+  pub occurrences : length l.occurrences ≤ 512

@@ -3,6 +3,8 @@ ghost use Rattle.std.specs.Prelude.{◌≡◌, ◌&&◌, if◌then◌else◌, Ok
 ghost use Rattle.faults.specs.declared.Fault.TheVariants.{NoSuchGuard, NoSuchPlace};
 ghost use Rattle.guards.specs.declared.entry.Entry.TheVariants.{Switch, Not, Both, Either};
 ghost use Rattle.sheet.specs.declared.call.Change.TheVariants.{Equation, Variable, Place, Strike, Assume};
+ghost use Rattle.guards.specs.Meaning.{Sound};
+ghost use Rattle.sheet.specs.Ledger.{Bounded};
 ghost use Rattle.sheet.specs.Calls.{Drafts, Enters, has_guard, has_equation, has_variable, new_sheet};
 
 use crate::lines::{Lines, put_under};
@@ -146,10 +148,11 @@ impl<B: GuardBook> Draft<B> {
     }
 
     pub fn issue(self) -> Issued<B>
-        ensures { result ≡ self }
+        ensures same { result ≡ self }
+        ensures bounds { Bounded self }
+        ensures sound { Sound B.MOST_SWITCHES self.book }
     {
-        let Draft { book, lines } = self;
-        Issued { book, lines }
+        Issued { draft: self }
     }
 }
 
@@ -157,7 +160,7 @@ impl<B: GuardBook> Issued<B> {
     pub fn reopen(self) -> Draft<B>
         ensures { result ≡ self }
     {
-        let Issued { book, lines } = self;
-        Draft { book, lines }
+        let Issued { draft } = self;
+        draft
     }
 }

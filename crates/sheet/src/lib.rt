@@ -33,20 +33,18 @@ impl<B: GuardBook> Model for Draft<B> {
     ghost view = { λ s. of_lines (B.GuardBook.meaning s.book) s.lines };
 }
 
-// seen as its ledger
+// a draft that is read and not drawn on; seen as its ledger
 #[derive(Drop)]
 pub struct Issued<B: GuardBook> {
-    book: B,
-    lines: Lines,
+    draft: Draft<B>,
 }
 
 impl<B: GuardBook> Model for Issued<B> {
     ghost use Rattle.sheet.specs.Ledger.{Ledger};
-    ghost use Rattle.sheet.specs.Lines.{of_lines};
 
     ghost Value = { Ledger };
 
-    ghost view = { λ s. of_lines (B.GuardBook.meaning s.book) s.lines };
+    ghost view = { λ s. s.draft };
 }
 
 // 0, or the number of the refusal where a sheet cannot have so many equations or variables.

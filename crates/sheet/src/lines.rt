@@ -15,12 +15,16 @@ pub struct Lines {
     pub(crate) variables: ArrayVec<u8, 64>,
     pub(crate) occurrences: ArrayVec<Occurrence, 512>,
     pub(crate) assumed: u8,
+    ghost few_equations: { length equations.items ≤ 64 },
+    ghost few_variables: { length variables.items ≤ 64 },
+    ghost few_occurrences: { length occurrences.items ≤ 512 },
 }
 
 impl Lines {
     // Every equation and variable under guard 0, no occurrence, guard 0 assumed.
     pub(crate) fn new(equations: usize, variables: usize) -> Self
-        requires { (equations ≤ 64) × (variables ≤ 64) }
+        requires few_equations { equations ≤ 64 }
+        requires few_variables { variables ≤ 64 }
         ensures equations { result.equations.items ≡ replicate equations 0 }
         ensures variables { result.variables.items ≡ replicate variables 0 }
         ensures occurrences { result.occurrences.items ≡ [] }

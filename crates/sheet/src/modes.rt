@@ -1,10 +1,11 @@
 // What an issued sheet answers about a mode.
 ghost use Rattle.std.specs.Prelude.{◌≡◌};
-ghost use Rattle.guards.specs.Meaning.{modes};
+ghost use Rattle.guards.specs.Meaning.{Sound, modes};
+ghost use Rattle.sheet.specs.Ledger.{Bounded};
 ghost use Rattle.sheet.specs.Past.{Past, ledger_of};
 ghost use Rattle.sheet.specs.Signatures.{signed, shown};
 
-use crate::Issued;
+use crate::{Draft, Issued};
 use faults::Fault;
 use guards::GuardBook;
 use reading::Setting;
@@ -13,9 +14,11 @@ use sigma::Table;
 impl<B: GuardBook> Issued<B> {
     // How many modes there are.
     pub fn modes(&self) -> usize
-        ensures { result ≡ modes self.now.book }
+        ensures count { result ≡ modes self.now.book }
+        ensures bounds { Bounded self.now }
+        ensures sound { Sound B.MOST_SWITCHES self.now.book }
     {
-        self.book.modes()
+        self.draft.book.modes()
     }
 
     // The signature of an allowed mode.
@@ -26,11 +29,8 @@ impl<B: GuardBook> Issued<B> {
         if mode >= self.modes() {
             return Err(Fault::NoSuchMode);
         }
-        let lines = &self.lines;
-        let setting = Setting {
-            book: &self.book,
-            mode,
-        };
+        let Draft { book, lines } = &self.draft;
+        let setting = Setting { book, mode };
         if !setting.says(lines.assumed as usize) {
             return Err(Fault::ModeNotAllowed);
         }

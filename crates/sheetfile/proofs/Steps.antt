@@ -1,6 +1,6 @@
 -- One step along a chain. Assumes nothing.
 use Rattle.std.proofs.Common.{◌≡◌, ℕ, ◌+◌, ◌-◌, ◌*◌, ◌≤◌, List, ◌∷◌, take, drop, sym, ap, ◌∙◌, subst, arith}
-use Rattle.sheetfile.specs.Format.{count_of, part_of, next_of}
+use Rattle.sheetfile.specs.Format.{count_of, pair, part_of, next_of}
 use Rattle.sheetfile.specs.Opening.{Chain, done, link}
 use Rattle.sheetfile.specs.Reader.{rest_from}
 use Rattle.sheetfile.proofs.Judges.{rest_is}
@@ -22,8 +22,8 @@ along f n q ns (link m ms l k) some e =
       chain = subst (Chain f q) (sym r) k';
     }
 
-pub steps : (f : List ℕ) (n q : ℕ) → Chain f n (rest_from f n) → 1 ≤ n → q ≡ next_of f n → Steps f n q
-steps f n q c = along f n q (rest_from f n) c
+pub steps : (f : List ℕ) (n q : ℕ) (part : List ℕ) → Chain f n (rest_from f n) → 1 ≤ n → part ≡ part_of f n → q ≡ pair part → Steps f n q
+steps f n q part c some p e = along f n q (rest_from f n) c some (e ∙ ap pair p)
 
 -- the part of a file that the code lends
 pub lent : (f : List ℕ) (n : ℕ) → take ((8 * n + 8) - 8 * n) (drop (8 * n) f) ≡ part_of f n

@@ -88,7 +88,8 @@ fn is_sound(part: &[u8]) -> bool
 
 // The eight bytes of a record.
 fn part(bytes: &[u8], number: usize) -> &[u8]
-    requires { (1 ≤ number) × (number ≤ count_of bytes.now) }
+    requires some { 1 ≤ number }
+    requires within { number ≤ count_of bytes.now }
     ensures { result.now ≡ part_of bytes.now number }
 {
     &bytes[8 * number..8 * number + 8]
@@ -170,8 +171,7 @@ impl<'a> SheetFile<'a> {
         ensures handed { Hands self.old result.0 result.1.now self.new }
         ensures same { self.new.file ≡ self.old.file }
     {
-        let none = &self.bytes[..0];
-        self.next().unwrap_or((0, none))
+        self.next().unwrap_or((0, &[]))
     }
 }
 

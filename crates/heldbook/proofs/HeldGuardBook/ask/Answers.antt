@@ -1,7 +1,11 @@
+use Rattle.std.proofs.Common.{ap, ◌∙◌}
+use Rattle.guards.specs.Calls.{asked}
 use Rattle.heldbook.proofs.Commutes.{under_answered}
 use Rattle.heldbook.proofs.HeldGuardBook.ask.Goals as goal
 
 pub returns : goal.returns
 returns g c =
     let x = c.args.self.now in
-    under_answered (g.B.GuardBook.meaning x.below) _ (g.met.B.GuardBook.sound x.below) x.hold x.stands c.ask.result c.args.guard c.args.mode _ c.ask.ensures c.put.ensures
+    let mean = g.B.GuardBook.meaning in
+    let below = c.ask.ensures ∙ ap (λ v. asked (mean v.1) c.args.guard c.put.result) c.self.view_is in
+    under_answered (mean x.1) _ (g.met.B.GuardBook.sound x.1) x.0 c.ask.result c.args.guard c.args.mode _ below c.put.ensures
