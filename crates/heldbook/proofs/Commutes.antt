@@ -87,10 +87,6 @@ module _ (s : ℕ) (at : Bool) (b : Meaning) (most : ℕ) (x : Sound most b) whe
       (λ l. rw (lt-ltb s b.switches l) (holding-asked s (hold_of at) b l x.one_each g m))
       (λ l. rw (le-ltb s b.switches l) refl)
 
-pub under_guards : (hold : Option (ℕ × Bool)) (b : Meaning) (most : ℕ) → Sound most b → length (under hold b).guards ≡ length b.guards
-under_guards None b most x = refl
-under_guards (Some h) b most x = held_guards h.0 h.1 b most x
-
 module _ (b : Meaning) (most : ℕ) (x : Sound most b) where
   -- an entry into the book below is that entry into the held book
   pub under_entered : (hold : Option (ℕ × Bool)) (e : Entry) (r : Result ℕ Fault) (y : Meaning) → Entered b e r y → Entered (under hold b) e r (under hold y)

@@ -12,8 +12,7 @@ use faults::Fault;
 use guards::{Entry, GuardBook};
 use std::marker::Model;
 
-// holds a switch of the book below on or off, or nothing
-// seen as its hold and the book below
+// holds a switch of the book below on or off, or nothing; seen as its hold and that book
 #[derive(Drop)]
 pub struct Held<B: GuardBook> {
     below: B,
