@@ -10,5 +10,5 @@ returns g c =
     let x = c.self-2.inside in
     let s = signature_of c.signature.result in
     let is : Ok s ≡ signed c.args.self.now c.args.mode = subst (λ l. Ok s ≡ signed l c.args.mode) (c.self-2.view_is ∙ c.self.view_is)
-        (signed_is (of_lines (g.B.GuardBook.meaning x.book) x.lines) c.args.mode s _ _ _ (search rules) c.if-not-says.ensures c.deref.ensures c.deref-2.ensures c.deref-3.ensures.0 c.signature.ensures) in
+    (signed_is (of_lines (g.B.GuardBook.meaning x.book) x.lines) c.args.mode s _ _ _ (search rules) c.if-not-says.ensures c.deref.ensures c.deref-2.ensures c.deref-3.ensures.0 c.signature.ensures) in
     record { given = is; past = λ p q. is ∙ ap (λ l. signed l c.args.mode) (sym q) }
