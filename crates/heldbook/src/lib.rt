@@ -42,7 +42,7 @@ impl<B: GuardBook> Held<B> {
     pub fn new(below: B, switch: usize, on: bool) -> Self
         ensures { of_held B.meaning result ≡ held switch on (B.meaning below) }
     {
-        let hold = (switch < below.switches()).then_some((switch, on));
+        let hold = (Self::check_switch(&below, switch) == 0).then_some((switch, on));
         Held { below, hold }
     }
 

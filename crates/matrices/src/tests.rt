@@ -210,14 +210,14 @@ fn records_before_a_refused_one_stand(rt: HostRuntime) -> Result<(), Fail> {
     let mut draft = Draft::new(RowBook::new(1), 1, 1);
     let refused = [0, 0, b'O', 0, 0, 16, 0, 0];
     draw(&mut draft, 1, &[0, 2, b'O', 0, 0, 3, 0, 0])?;
-    match draw(&mut draft, 7, &refused) {
-        Ok(_) => assert!(rt; false),
-        Err(fault) => assert_eq!(rt; numbers(fault), (11, 7)),
-    }
-    match draw(&mut draft, 8, &refused[0..7]) {
-        Ok(_) => assert!(rt; false),
-        Err(fault) => assert_eq!(rt; numbers(fault), (4, 8)),
-    }
+    assert_eq!(rt;
+        draw(&mut draft, 7, &refused).err().map(numbers),
+        Some((11, 7))
+    );
+    assert_eq!(rt;
+        draw(&mut draft, 8, &refused[0..7]).err().map(numbers),
+        Some((4, 8))
+    );
     assert_eq!(rt; draft.issue().signature(0)?.place(0, 0), Some(3));
     Ok(())
 }

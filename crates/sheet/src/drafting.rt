@@ -3,7 +3,6 @@ ghost use Rattle.std.specs.Prelude.{◌≡◌, ◌&&◌, if◌then◌else◌, Ok
 ghost use Rattle.faults.specs.declared.Fault.TheVariants.{NoSuchGuard, NoSuchPlace};
 ghost use Rattle.guards.specs.declared.entry.Entry.TheVariants.{Switch, Not, Both, Either};
 ghost use Rattle.sheet.specs.declared.call.Change.TheVariants.{Equation, Variable, Place, Strike, Assume};
-ghost use Rattle.guards.specs.Meaning.{Sound};
 ghost use Rattle.sheet.specs.Ledger.{Bounded};
 ghost use Rattle.sheet.specs.Calls.{Drafts, Enters, has_guard, has_equation, has_variable, new_sheet};
 
@@ -149,8 +148,7 @@ impl<B: GuardBook> Draft<B> {
 
     pub fn issue(self) -> Issued<B>
         ensures same { result ≡ self }
-        ensures bounds { Bounded self }
-        ensures sound { Sound B.MOST_SWITCHES self.book }
+        ensures bounds { Bounded B.MOST_SWITCHES self }
     {
         Issued { draft: self }
     }

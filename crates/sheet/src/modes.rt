@@ -1,6 +1,6 @@
 // What an issued sheet answers about a mode.
 ghost use Rattle.std.specs.Prelude.{◌≡◌};
-ghost use Rattle.guards.specs.Meaning.{Sound, modes};
+ghost use Rattle.guards.specs.Meaning.{modes};
 ghost use Rattle.sheet.specs.Ledger.{Bounded};
 ghost use Rattle.sheet.specs.Past.{Past, ledger_of};
 ghost use Rattle.sheet.specs.Signatures.{signed, shown};
@@ -15,8 +15,7 @@ impl<B: GuardBook> Issued<B> {
     // How many modes there are.
     pub fn modes(&self) -> usize
         ensures count { result ≡ modes self.now.book }
-        ensures bounds { Bounded self.now }
-        ensures sound { Sound B.MOST_SWITCHES self.now.book }
+        ensures bounds { Bounded B.MOST_SWITCHES self.now }
     {
         self.draft.book.modes()
     }
