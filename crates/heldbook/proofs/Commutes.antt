@@ -10,7 +10,7 @@ use Rattle.guards.specs.Meaning.{Meaning, Sound, Hold, seen, row, modes, with_gu
 use Rattle.guards.specs.Calls.{entry_says, answer, settle, after, asked, Entered}
 use Rattle.guards.proofs.Bits.{seen-lt, seen-ge}
 use Rattle.guards.proofs.Rows.{row_at, row_same}
-use Rattle.heldbook.specs.Held.{hold_of, alone, held_row, holding, held, under, put_mode, mode_put}
+use Rattle.heldbook.specs.Held.{hold_of, alone, held_row, holding, held, under, put_mode, mode_below}
 use Rattle.heldbook.specs.Over.{rows_say, held_count, reach, held_in, held_out}
 use Rattle.heldbook.proofs.Put.{seen-put}
 
@@ -97,6 +97,6 @@ module _ (b : Meaning) (most : ℕ) (x : Sound most b) where
   }
 
   -- what the book below answers in the put mode is what the held book answers
-  pub under_answered : (hold : Option (ℕ × Bool)) (r : Result Bool Fault) (g m m' : ℕ) → told r ≡ asked b g m' → m' ≡ mode_put hold b m → told r ≡ asked (under hold b) g m
+  pub under_answered : (hold : Option (ℕ × Bool)) (r : Result Bool Fault) (g m m' : ℕ) → told r ≡ asked b g m' → m' ≡ mode_below hold b m → told r ≡ asked (under hold b) g m
   under_answered None r g m m' below put = below ∙ ap (asked b g) put
   under_answered (Some h) r g m m' below put = below ∙ ap (asked b g) put ∙ sym (held-asked h.0 h.1 b most x g m)

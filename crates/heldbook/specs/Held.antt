@@ -45,10 +45,11 @@ of_held mean x = under x.0 (mean x.1)
 abbrev pub Stands : Option (ℕ × Bool) → Meaning → Type 0
 Stands hold b = ForSome hold (λ h. h.0 < b.switches)
 
--- for a private function: the mode in which the book below is asked
+-- the mode m with switch s put so, where b has that switch
 abbrev pub put_mode : ℕ → Bool → Meaning → ℕ → ℕ
 put_mode s at b m = if nat_lt s b.switches then seen (alone s (hold_of at)) m else m
 
-abbrev pub mode_put : Option (ℕ × Bool) → Meaning → ℕ → ℕ
-mode_put None b m = m
-mode_put (Some h) b m = put_mode h.0 h.1 b m
+-- for a private function: the mode in which the book below is asked
+abbrev pub mode_below : Option (ℕ × Bool) → Meaning → ℕ → ℕ
+mode_below None b m = m
+mode_below (Some h) b m = put_mode h.0 h.1 b m

@@ -4,7 +4,7 @@
 ghost use Rattle.std.specs.Prelude.{◌≡◌, nat_le};
 ghost use Rattle.faults.specs.declared.Fault.TheVariants.{NoSuchSwitch};
 ghost use Rattle.faults.specs.Refusals.{bare};
-ghost use Rattle.heldbook.specs.Held.{held, of_held, mode_put};
+ghost use Rattle.heldbook.specs.Held.{held, of_held, mode_below};
 ghost use Rattle.heldbook.specs.Over.{under_sound};
 ghost use Rattle.std.proofs.Common.{rules};
 
@@ -48,7 +48,7 @@ impl<B: GuardBook> Held<B> {
 
     // A mode with the switch put where it is held.
     fn put(&self, mode: usize) -> usize
-        ensures { result ≡ mode_put self.now.0 (B.meaning self.now.1) mode }
+        ensures { result ≡ mode_below self.now.0 (B.meaning self.now.1) mode }
     {
         let Some((switch, on)) = self.hold else {
             return mode;
