@@ -6,7 +6,7 @@ ghost use Rattle.faults.specs.declared.Fault.TheVariants.{TooLarge};
 ghost use Rattle.faults.specs.Refusals.{told, bare};
 ghost use Rattle.guards.specs.declared.entry.Entry.TheVariants.{Switch, Not, Both, Either};
 ghost use Rattle.guards.specs.Meaning.{Meaning, Sound, modes, switches_made, SeenBySwitch};
-ghost use Rattle.guards.specs.Calls.{Entered, answer, found, asked};
+ghost use Rattle.guards.specs.Calls.{Entered, admitted, answer, found, asked};
 
 pub use entry::Entry;
 use faults::Fault;
@@ -71,16 +71,7 @@ pub trait GuardBook {
     fn admit(&self, entry: Entry) -> Result<usize, Fault>
         ensures { told result ≡ answer (meaning self.now) entry }
     {
-        let (switches, guards) = (self.switches(), self.guards());
-        match entry {
-            Entry::Switch(s) if s >= switches => Err(Fault::NoSuchSwitch),
-            Entry::Not(g) if g >= guards => Err(Fault::NoSuchGuard),
-            Entry::Both(g, h) | Entry::Either(g, h) if g >= guards || h >= guards => {
-                Err(Fault::NoSuchGuard)
-            }
-            _ if guards < 64 => Ok(guards),
-            _ => Err(Fault::GuardsFull),
-        }
+        admit(self.switches(), self.guards(), entry)
     }
 
     // Nothing, or why the question is refused.
@@ -118,6 +109,21 @@ pub trait GuardBook {
     ghost most_bound: { MOST_SWITCHES ≤ 16 };
 
     ghost sound: { (x : Self) → Sound MOST_SWITCHES (meaning x) };
+}
+
+// The number of the next guard, where `switches` and `guards` stand, or why the entry is refused.
+pub fn admit(switches: usize, guards: usize, entry: Entry) -> Result<usize, Fault>
+    ensures { told result ≡ admitted switches guards entry }
+{
+    match entry {
+        Entry::Switch(s) if s >= switches => Err(Fault::NoSuchSwitch),
+        Entry::Not(g) if g >= guards => Err(Fault::NoSuchGuard),
+        Entry::Both(g, h) | Entry::Either(g, h) if g >= guards || h >= guards => {
+            Err(Fault::NoSuchGuard)
+        }
+        _ if guards < 64 => Ok(guards),
+        _ => Err(Fault::GuardsFull),
+    }
 }
 
 // The seen mode is what it is switch by switch: as held where held, and as in the mode where free.
