@@ -44,8 +44,8 @@ impl RowBook {
         match entry {
             Entry::Switch(s) => (mode >> s) & 1 == 1,
             Entry::Not(g) => !answers[g],
-            Entry::Both(g, h) => answers[g] && answers[h],
-            Entry::Either(g, h) => answers[g] || answers[h],
+            Entry::Both(g, h) => answers[g] & answers[h],
+            Entry::Either(g, h) => answers[g] | answers[h],
         }
     }
 
@@ -55,11 +55,9 @@ impl RowBook {
         requires in_modes { mode < modes (of_rows self.now) }
         ensures { result ≡ says (of_rows self.now) guard mode }
     {
-        let mut answers: ArrayVec<bool, 64> = ArrayVec::new();
-        answers.push(true);
-        for entry in &self.entries[..guard] {
-            let answer = self.worked(*entry, mode, &answers);
-            answers.push(answer);
+        let mut answers = [true; 64];
+        for (i, &entry) in self.entries[..guard].iter().enumerate() {
+            answers[i + 1] = self.worked(entry, mode, &answers);
         }
         answers[guard]
     }
@@ -78,17 +76,17 @@ impl GuardBook for RowBook {
 
     ghost sound = { λ x. rows_sound x.switches x.entries.items x.few x.room };
 
-    #[tactic(auto, using(crate::proofs::Passes::width))]
+    #[tactic(auto, using(crate::proofs::Stays::width))]
     fn switches(&self) -> usize {
         self.switches
     }
 
-    #[tactic(auto, using(crate::proofs::Passes::count))]
+    #[tactic(auto, using(crate::proofs::Stays::count))]
     fn guards(&self) -> usize {
         self.entries.len() + 1
     }
 
-    #[tactic(auto, using(crate::proofs::Passes::count))]
+    #[tactic(auto, using(crate::proofs::Stays::count))]
     fn enter(&mut self, entry: Entry) -> Result<usize, Fault> {
         let guard = self.admit(entry)?;
         self.entries.push(entry);

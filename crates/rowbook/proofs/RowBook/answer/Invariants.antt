@@ -1,6 +1,7 @@
-use Rattle.std.proofs.Common.{◌≡◌, take}
-use Rattle.rowbook.proofs.Passes.{passed}
+use Rattle.std.proofs.Common.{◌≡◌, ◌+◌, length}
+use Rattle.rowbook.specs.RowBook.{of_rows}
+use Rattle.rowbook.proofs.Passes.{Right}
 use Rattle.rowbook.proofs.RowBook.answer.Given as goal
 
-abbrev pub invariant-loop-entry : goal.invariant-loop-entry
-invariant-loop-entry l = l.answers.items ≡ passed l.self.switches (take l.entry-index l.entry-items) l.mode
+abbrev pub invariant-loop-i : goal.invariant-loop-i
+invariant-loop-i l = (length l.answers ≡ 64) × Right l.answers (l.i + 1) (of_rows l.self) l.mode
