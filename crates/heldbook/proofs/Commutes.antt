@@ -22,6 +22,9 @@ module _ (s : ℕ) (h : Hold) (b : Meaning) (in-book : s < b.switches) (one_each
   put-lt : (m : ℕ) → m < modes b → seen (alone s h) m < modes b
   put-lt m l = seen-lt (alone s h) b.switches m (reach s h b in-book) l
 
+  pub held_answer : (e : Entry) → answer (holding s h b) e ≡ answer b e
+  held_answer e = rw (held_count s h b) refl
+
   held_entry : (e : Entry) (m : ℕ) → m < modes b → entry_says (holding s h b) e m ≡ entry_says b e (seen (alone s h) m)
   held_entry (Switch t) m l = ap (on_in t) (seen-put b.holds s h m (omega arith))
   held_entry (Not g) m l = ap not (rows_say s h (modes b) b.guards g m l)
@@ -43,7 +46,7 @@ module _ (s : ℕ) (h : Hold) (b : Meaning) (in-book : s < b.switches) (one_each
       sym (map-append (held_row s h (modes b)) b.guards (row (modes b) (entry_says b e) ∷ [])))
 
   holding-after : (e : Entry) → after (holding s h b) e ≡ holding s h (after b e)
-  holding-after e = rw (held_count s h b, held_with e) (settled (holding s h) (answer b e) (with_guard b (entry_says b e)) b)
+  holding-after e = rw (held_answer e, held_with e) (settled (holding s h) (answer b e) (with_guard b (entry_says b e)) b)
 
   holding-asked : (g m : ℕ) → asked (holding s h b) g m ≡ asked b g (seen (alone s h) m)
   holding-asked g m =
