@@ -1,5 +1,5 @@
 -- The signature of one mode. Assumes nothing.
-use Rattle.std.specs.Prelude.{ℕ, zero, suc, max, Bool, if◌then◌else◌, List, [], ◌∷◌, ◌++◌, Some, None, Option, slice_index_or}
+use Rattle.std.specs.Prelude.{ℕ, zero, suc, max, Bool, if◌then◌else◌, List, [], ◌∷◌, ◌++◌, Some, None, Option}
 
 -- the active equations and the active variables, rising, and the order at each place, none where the place is empty
 pub record Signature : Type 0 where
@@ -16,7 +16,3 @@ rising p (suc n) = rising p n ++ (if p n then n ∷ [] else [])
 abbrev pub raised : Option ℕ → ℕ → Option ℕ
 raised None k = Some k
 raised (Some n) k = Some (max n k)
-
--- the order in row i and column j, none where there is no such place
-abbrev pub order_at : List (List (Option ℕ)) → ℕ → ℕ → Option ℕ
-order_at orders i j = slice_index_or (slice_index_or orders i []) j None

@@ -1,11 +1,11 @@
 -- The signature that a table stands for. Assumes nothing.
-use Rattle.std.specs.Prelude.{◌≡◌, ℕ, Bool, if◌then◌else◌, ◌&&◌, Option, ◌==◌}
+use Rattle.std.specs.Prelude.{◌≡◌, ℕ, Bool, if◌then◌else◌, ◌&&◌, [], Some, None, Option, ◌==◌, slice_index, slice_index_or}
 use Rattle.sets.specs.Word.{member}
 use Rattle.sigma.specs.declared.Table.{Table}
-use Rattle.sigma.specs.Signature.{Signature, rising, raised, order_at}
+use Rattle.sigma.specs.Signature.{Signature, rising, raised}
 
 abbrev pub place_in : Table → ℕ → ℕ → Option ℕ
-place_in t i j = order_at t.orders i j
+place_in t i j = if member (slice_index t.across i) j then Some (slice_index (slice_index_or t.orders i []) j) else None
 
 abbrev pub signature_of : Table → Signature
 signature_of t = record { equations = rising (member t.equations) 64; variables = rising (member t.variables) 64; place = place_in t }
