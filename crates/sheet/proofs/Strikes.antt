@@ -2,13 +2,21 @@
 use Rattle.std.proofs.Common.{◌≡◌, ℕ, ◌+◌, ◌<◌, ◌≤◌, Bool, true, false, not, ◌&&◌, List, [], ◌∷◌, length, Ok, Err, filter, sym, refl, ap, ◌∙◌, ⊎_elim, arith}
 use Rattle.std.proofs.lemmas.Bool.{lt-ltb, le-ltb, cases_Bool, cond-true, cond-false}
 use Rattle.std.proofs.lemmas.List.Filters.{length-filter_both}
+use Rattle.faults.specs.declared.Fault.{Fault}
 use Rattle.faults.specs.declared.Fault.TheVariants.{NothingToStrike}
 use Rattle.faults.specs.Refusals.{refusal}
 use Rattle.guards.specs.Calls.{settle}
 use Rattle.reading.specs.declared.occurrence.Occurrence.{Occurrence}
+use Rattle.sheet.specs.declared.call.Change.{Change}
 use Rattle.sheet.specs.declared.call.Change.TheVariants.{Strike}
 use Rattle.sheet.specs.Ledger.{Ledger}
 use Rattle.sheet.specs.Calls.{reply, changed, Drafts, has_guard, has_equation, has_variable, named, other, struck, unstruck}
+
+accepted : (l : Ledger) (c : Change) (x : Ledger) → reply l c ≡ Ok tt → x ≡ changed l c → Drafts l c (Ok tt) x
+accepted l c x a e = record { given = sym a; left = e ∙ sym (ap (λ r. settle r (changed l c) l) a) }
+
+declined : (l : Ledger) (c : Change) (f : Fault) (x : Ledger) → reply l c ≡ Err (refusal f) → x ≡ l → Drafts l c (Err f) x
+declined l c f x a e = record { given = sym a; left = e ∙ sym (ap (λ r. settle r (changed l c) l) a) }
 
 -- what a filter keeps whole is as it was
 kept_whole : {X : Type 0} (p : X → Bool) (xs : List X) → length xs ≤ length (filter p xs) → filter p xs ≡ xs
@@ -34,10 +42,10 @@ module _ (l : Ledger) (i j g : ℕ) (os : List Occurrence) (a : has_guard l g �
   pub some_struck : length os < length l.occurrences → Drafts l (Strike i j g) (Ok tt) left
   some_struck h =
       let r : reply l (Strike i j g) ≡ Ok tt = rw (a, e, lt-ltb 0 (length (struck l i j g)) (omega (arith, gone))) refl in
-      record { given = sym r; left = with_kept (unstruck l i j g) kept ∙ sym (ap (λ x. settle x (changed l (Strike i j g)) l) r) }
+      accepted l (Strike i j g) left r (with_kept (unstruck l i j g) kept)
 
   pub none_struck : length l.occurrences ≤ length os → Drafts l (Strike i j g) (Err NothingToStrike) left
   none_struck h =
       let r : reply l (Strike i j g) ≡ Err (refusal NothingToStrike) = rw (a, e, le-ltb 0 (length (struck l i j g)) (omega (arith, gone))) refl in
       let same = kept ∙ kept_whole (other i j g) l.occurrences (omega (arith, ap length kept)) in
-      record { given = sym r; left = with_kept l.occurrences same ∙ sym (ap (λ x. settle x (changed l (Strike i j g)) l) r) }
+      declined l (Strike i j g) NothingToStrike left r (with_kept l.occurrences same)

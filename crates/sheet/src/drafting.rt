@@ -1,6 +1,7 @@
 // The drafting calls, and the passage between draft and issued sheet.
 ghost use Rattle.std.specs.Prelude.{◌≡◌, ◌&&◌, if◌then◌else◌, Ok, Err};
 ghost use Rattle.faults.specs.declared.Fault.TheVariants.{NoSuchGuard, NoSuchPlace};
+ghost use Rattle.guards.specs.Meaning.{modes};
 ghost use Rattle.guards.specs.declared.entry.Entry.TheVariants.{Switch, Not, Both, Either};
 ghost use Rattle.sheet.specs.declared.call.Change.TheVariants.{Equation, Variable, Place, Strike, Assume};
 ghost use Rattle.sheet.specs.Ledger.{Bounded};
@@ -144,6 +145,14 @@ impl<B: GuardBook> Draft<B> {
     {
         self.lines.assumed = self.standing(guard)?;
         Ok(())
+    }
+
+    // How many modes there are.
+    pub fn modes(&self) -> usize
+        ensures count { result ≡ modes self.now.book }
+        ensures bounds { Bounded B.MOST_SWITCHES self.now }
+    {
+        self.book.modes()
     }
 
     pub fn issue(self) -> Issued<B>

@@ -17,7 +17,7 @@ impl<B: GuardBook> Issued<B> {
         ensures count { result ≡ modes self.now.book }
         ensures bounds { Bounded B.MOST_SWITCHES self.now }
     {
-        self.draft.book.modes()
+        self.draft.modes()
     }
 
     // The signature of an allowed mode.
