@@ -4,7 +4,7 @@
 ghost use Rattle.std.specs.Prelude.{◌≡◌, ◌+◌, ◌≤◌, true, length, OnOk};
 ghost use Rattle.guards.specs.Calls.{named};
 
-use anyhow::Context;
+use anyhow::anyhow;
 use faults::Fault;
 use guards::{Entry, GuardBook};
 use heldbook::Held;
@@ -55,9 +55,9 @@ fn ask_all<B: GuardBook>(alloc: Global, book: &B, on: usize) -> anyhow::Result<V
     let mut answers = Vec::new(alloc);
     for guard in 0..book.guards() {
         for mode in 0..book.modes() {
-            let answer = book
-                .ask(guard, mode | on)
-                .context("a standing guard was not answered")?;
+            let Ok(answer) = book.ask(guard, mode | on) else {
+                return Err(anyhow!("a standing guard was not answered"));
+            };
             answers.push(answer)?;
         }
     }
