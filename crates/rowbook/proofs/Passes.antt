@@ -36,8 +36,9 @@ module _ (x : RowBook) where
   right_none y m e l (suc j) h = absurd (omega arith)
 
   -- the answer of one entry more
-  pub right_more : (answers : List Bool) (i m : ℕ) (y : Bool) → length answers ≡ 64 → i < length x.entries.items → i < 63 → m < modes (of_rows x) → Right answers (i + 1) (of_rows x) m → y ≡ says_by answers (slice_index_or x.entries.items i (Switch 0)) m → Right (slice_set answers (i + 1) y) (i + 1 + 1) (of_rows x) m
-  right_more answers i m y long l few h r is j k =
+  pub right_more : (answers : List Bool) (i m : ℕ) (y : Bool) → length answers ≡ 64 → i < length x.entries.items → m < modes (of_rows x) → Right answers (i + 1) (of_rows x) m → y ≡ says_by answers (slice_index_or x.entries.items i (Switch 0)) m → Right (slice_set answers (i + 1) y) (i + 1 + 1) (of_rows x) m
+  right_more answers i m y long l h r is j k =
+      let few = x.room in
       let e = get_or x.entries.items i (Switch 0) in
       let b = of_rows x in
       let p = x.stands i l in

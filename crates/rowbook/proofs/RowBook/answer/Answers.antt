@@ -26,7 +26,7 @@ loop-i-preserved c =
     let l : i < c.args.guard = omega arith in
     let n = count x in (
       simp length-set c.loop-i.invariant.0,
-      right_more x c.loop-i.answers i c.args.mode c.worked.result c.loop-i.invariant.0 (omega arith) (omega (arith, x.room)) c.requires.in_modes c.loop-i.invariant.1
+      right_more x c.loop-i.answers i c.args.mode c.worked.result c.loop-i.invariant.0 (omega arith) c.requires.in_modes c.loop-i.invariant.1
           (c.worked.ensures ∙ ap (λ e. says_by c.loop-i.answers e c.args.mode) (rw c.deref.ensures.0 (get_or-take c.args.guard x.entries.items i (Switch 0) l))),
     )
 
